@@ -1,0 +1,22 @@
+-- The digest's bytes, written four at a time behind those that stand there. Assumes nothing.
+use mathlib.Core.Path.{_≡_, refl, sym, ap, _∙_}
+use Prim.Native.Nat.{ℕ, _+_, _*_, _/_, _%_, _≤_, _<_}
+use native.Mathlib.Numerals.{add-one}
+use native.Mathlib.Nat.{div-one}
+use native.Mathlib.Omega.{arith}
+use mathlib.Core.List.{List, [], _∷_, _++_, append-assoc}
+use lib.ListN.{length, take, set, getD, length-set}
+use lib.Seq.{take-suc-set, take-all}
+use Rattle.numbers.specs.Numbers.{bytesOf}
+use Rattle.sha256.specs.Computation.{digest}
+use Rattle.sha256.proofs.Growing.{four-more}
+
+-- the bytes of one more word of a hash value
+pub word-more : (H l : List ℕ) (i x : ℕ) → 4 * i + 4 ≤ length l → take (4 * i) l ≡ digest H i → x ≡ getD H i 0
+    → take (4 * (i + 1)) (set (set (set (set l (4 * i) (x / 16777216 % 256)) (4 * i + 1) (x / 65536 % 256)) (4 * i + 2) (x / 256 % 256)) (4 * i + 3) (x % 256)) ≡ digest H (i + 1)
+unfolding digest bytesOf
+word-more H l i x fits front same =
+    let e : 4 * (i + 1) ≡ 4 * i + 4 = omega arith in
+    let first : x / 1 % 256 ≡ x % 256 = rw div-one in
+    let bytes : x / 16777216 % 256 ∷ x / 65536 % 256 ∷ x / 256 % 256 ∷ x % 256 ∷ [] ≡ bytesOf 4 (getD H i 0) = rw (← first, same) in
+    rw (e, add-one i) (four-more l (4 * i) (x / 16777216 % 256) (x / 65536 % 256) (x / 256 % 256) (x % 256) fits front ∙ ap (λ (t : List ℕ). digest H i ++ t) bytes)

@@ -11,6 +11,7 @@ use Rattle.sha256.specs.Parsing.{block, blocks}
 unfoldable pub H₀ : List ℕ
 H₀ =
     0x6a09e667 ∷ 0xbb67ae85 ∷ 0x3c6ef372 ∷ 0xa54ff53a ∷ 0x510e527f ∷ 0x9b05688c ∷ 0x1f83d9ab ∷ 0x5be0cd19 ∷ []
+
 -- the hash value after the first i blocks of p, from the value H
 unfoldable pub hashes : List ℕ → List ℕ → ℕ → List ℕ
 hashes H p zero = H

@@ -49,4 +49,3 @@ pub sha256-two-blocks : sha256 two-blocks ≡
     0xa3 ∷ 0x3c ∷ 0xe4 ∷ 0x59 ∷ 0x64 ∷ 0xff ∷ 0x21 ∷ 0x67 ∷ 0xf6 ∷ 0xec ∷ 0xed ∷ 0xd4 ∷ 0x19 ∷ 0xdb ∷ 0x06 ∷ 0xc1 ∷ []
 unfolding two-blocks wordAt _⊞_ SHL SHR ROTR Ch Maj Σ₀ Σ₁ σ₀ σ₁ K H₀ k bytesOf padding pad words block blocks nextWord schedule W T₁ T₂ round roundAt rounds addTo nextHash hashes digest sha256
 sha256-two-blocks = refl
-

@@ -56,4 +56,3 @@ digest-spec =
     (λ c. search needs)
     loop-again
     returns)
-

@@ -46,4 +46,3 @@ hash-blocks-spec =
     (λ c. search needs)
     loop-again
     returns)
-

@@ -41,4 +41,3 @@ next-hash-spec =
     (λ c. search needs)
     (λ c κs. search needs)
     returns)
-

@@ -44,4 +44,3 @@ round-spec =
     (λ c. search needs)
     (λ c. search needs)
     returns)
-

@@ -80,4 +80,3 @@ rounds-0-to-15-spec =
     (λ c. search needs)
     (λ c κs. search needs)
     returns)
-

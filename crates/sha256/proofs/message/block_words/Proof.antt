@@ -73,4 +73,3 @@ block-words-spec =
     (λ c. search needs)
     loop-again
     returns)
-

@@ -41,4 +41,3 @@ byte-at-spec =
     returns-3
     returns-4
     returns-5)
-

@@ -102,4 +102,3 @@ word-at-spec =
     returns-4
     mixed-word-requires
     returns-5)
-

@@ -120,4 +120,3 @@ schedule-spec =
     (λ c. search needs)
     loop-again
     returns)
-

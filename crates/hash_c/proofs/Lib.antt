@@ -1,0 +1,2 @@
+-- The cases of an outcome, which both functions' proofs cite.
+mod Outcomes

@@ -1,0 +1,76 @@
+// HMAC-SHA-256 (FIPS 198-1) of a message that lies in two pieces. The pads are worked out first, as the two
+// hash values that they lead to, so the message is never copied and a key can serve several messages.
+use sha256::absorb;
+use sha256::initial;
+use sha256::sha256;
+use sha256::sha256_after;
+ghost use mathlib.Core.Path.{_≡_};
+ghost use mathlib.Core.List.{_++_};
+ghost use Prim.Native.Nat.{_+_, _-_, _≤_};
+ghost use lib.ListN.{length, replicate};
+ghost use Rattle.hmac.specs.Hmac.{B, ipad, opad, _⊕_, hmac};
+ghost use Rattle.hmac.specs.Preparation.{afterBlock, preparedOf, macOf};
+
+// What a key comes to: the hash values after its inner and its outer pad.
+pub struct Prepared {
+    pub inner: [u32; 8],
+    pub outer: [u32; 8],
+}
+
+// The hash value after the block that a key and zeros behind it make, XORed with `pad` in every byte. The
+// block starts as that pad, which is what the zeros give.
+fn after_pad(key: &[u8], pad: u8) -> [u32; 8]
+    requires { ⌜ length (now key) ≤ B ⌝ }
+    ensures { λ r. ⌜ r ≡ afterBlock ((now (key .entry) ++ replicate (B - length (now (key .entry))) 0) ⊕ replicate B pad) ⌝ }
+{
+    let mut block = [pad; 64];
+    let mut i = 0;
+    while i < key.len() {
+        block[i] = key[i] ^ pad;
+        i += 1;
+    }
+    absorb(initial(), &block)
+}
+
+// What a key of at most a block comes to.
+fn prepare_short(key: &[u8]) -> Prepared
+    requires { ⌜ length (now key) ≤ B ⌝ }
+    ensures { λ r. ⌜ r ≡ preparedOf (now (key .entry)) ⌝ }
+{
+    let inner = after_pad(key, 0x36);
+    let outer = after_pad(key, 0x5c);
+    Prepared { inner, outer }
+}
+
+// What a key comes to: one that is longer than a block is hashed first.
+pub fn prepare(key: &[u8]) -> Prepared
+    requires { ⌜ length (now key) ≤ 256 ⌝ }
+    ensures { λ r. ⌜ r ≡ preparedOf (now (key .entry)) ⌝ }
+{
+    if key.len() <= 64 {
+        prepare_short(key)
+    } else {
+        let hashed = sha256(key, &key[..0], &key[..0]);
+        prepare_short(&hashed)
+    }
+}
+
+// The MAC of a and b end to end, under a key that has been worked out.
+pub fn mac(k: Prepared, a: &[u8], b: &[u8]) -> [u8; 32]
+    requires { ⌜ length (now a) + length (now b) ≤ 65472 ⌝ }
+    ensures { λ r. ⌜ r ≡ macOf k (now (a .entry) ++ now (b .entry)) ⌝ }
+{
+    let inner = k.inner;
+    let outer = k.outer;
+    let d = sha256_after(inner, 1, a, b, &b[..0]);
+    sha256_after(outer, 1, &d, &b[..0], &b[..0])
+}
+
+// The MAC of a and b end to end.
+pub fn hmac(key: &[u8], a: &[u8], b: &[u8]) -> [u8; 32]
+    requires { ⌜ length (now key) ≤ 256 ⌝ }
+    requires { ⌜ length (now a) + length (now b) ≤ 65472 ⌝ }
+    ensures { λ r. ⌜ r ≡ hmac (now (key .entry)) (now (a .entry) ++ now (b .entry)) ⌝ }
+{
+    mac(prepare(key), a, b)
+}

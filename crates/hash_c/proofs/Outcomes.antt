@@ -35,13 +35,6 @@ long-key key o d long = ap {B = Outcome} (λ (t : Bool). pick t o (refused d)) (
 pub short-key : (key : List ℕ) (o : Outcome) (d : List ℕ) → length key ≤ 256 → o ≡ pick (leb (length key) 256) o (refused d)
 short-key key o d short = ap {B = Outcome} (λ (t : Bool). pick t o (refused d)) (sym (le-leb (length key) 256 short))
 
--- a test that was made, and what it says of its numbers
-pub failed : (r t : Bool) → r ≡ t → not r ≡ true → t ≡ false
-failed r t e n = sym e ∙ not-true r n
-
-pub passed : (r t : Bool) → r ≡ t → not r ≡ false → t ≡ true
-passed r t e n = sym e ∙ not-false r n
-
 -- a sum that is compared by differences
 pub by-differences : (a b c most : ℕ) → a ≤ most → b ≤ most - a → leb c (most - a - b) ≡ leb (a + b + c) most
 by-differences a b c most p q =

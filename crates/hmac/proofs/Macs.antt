@@ -102,3 +102,14 @@ unfolding macOf preparedOf hmac
 mac-prepared K m =
     ap (sha256After (afterBlock (K₀ K ⊕ opad)) 1) (sym (behind (K₀ K ⊕ ipad) m (length-pad K 0x36)))
     ∙ sym (behind (K₀ K ⊕ opad) (sha256 (K₀ K ⊕ ipad ++ m)) (length-pad K 0x5c))
+
+-- the MAC under a key of at most a block, from its two pads as they are worked out
+pub hmac-short : (K m i d o r : List ℕ) → length K ≤ B → i ≡ afterBlock ((K ++ replicate (B - length K) 0) ⊕ ipad) → d ≡ sha256After i 1 m
+    → o ≡ afterBlock ((K ++ replicate (B - length K) 0) ⊕ opad) → r ≡ sha256After o 1 d → r ≡ hmac K m
+unfolding macOf
+hmac-short K m i d o r short p q s t =
+    t ∙ ap (sha256After o 1) q ∙ ap (λ (k : Prepared). macOf k m) (prepared-short K i o short p s) ∙ mac-prepared K m
+
+-- under a longer one: as under its hash
+pub hmac-long : (K m : List ℕ) → B < length K → hmac (sha256 K) m ≡ hmac K m
+hmac-long K m long = sym (mac-prepared (sha256 K) m) ∙ ap (λ (k : Prepared). macOf k m) (prepared-long K long) ∙ mac-prepared K m

@@ -66,11 +66,29 @@ pub fn mac(k: Prepared, a: &[u8], b: &[u8]) -> [u8; 32]
     sha256_after(outer, 1, &d, &b[..0], &b[..0])
 }
 
-// The MAC of a and b end to end.
+// The MAC of a and b end to end under a key of at most a block. The outer pad is worked out only when the
+// inner hash is done, so that the two never stand on the stack together.
+fn hmac_short(key: &[u8], a: &[u8], b: &[u8]) -> [u8; 32]
+    requires { ⌜ length (now key) ≤ B ⌝ }
+    requires { ⌜ length (now a) + length (now b) ≤ 65472 ⌝ }
+    ensures { λ r. ⌜ r ≡ hmac (now (key .entry)) (now (a .entry) ++ now (b .entry)) ⌝ }
+{
+    let inner = after_pad(key, 0x36);
+    let d = sha256_after(inner, 1, a, b, &b[..0]);
+    let outer = after_pad(key, 0x5c);
+    sha256_after(outer, 1, &d, &b[..0], &b[..0])
+}
+
+// The MAC of a and b end to end: a key that is longer than a block is hashed first.
 pub fn hmac(key: &[u8], a: &[u8], b: &[u8]) -> [u8; 32]
     requires { ⌜ length (now key) ≤ 256 ⌝ }
     requires { ⌜ length (now a) + length (now b) ≤ 65472 ⌝ }
     ensures { λ r. ⌜ r ≡ hmac (now (key .entry)) (now (a .entry) ++ now (b .entry)) ⌝ }
 {
-    mac(prepare(key), a, b)
+    if key.len() <= 64 {
+        hmac_short(key, a, b)
+    } else {
+        let hashed = sha256(key, &key[..0], &key[..0]);
+        hmac_short(&hashed, a, b)
+    }
 }

@@ -3,6 +3,10 @@ pub mod Bytes
 pub mod Numbers
 pub mod Parts
 pub mod Layouts
+pub mod Forms
+pub mod Laying
+pub mod Slots
 pub mod Lending
 pub mod Comparison
 mod Differences
+pub mod Testing

@@ -9,7 +9,8 @@ use Prim.Native.Nat.{ℕ, _+_, _≤_}
 use native.Mathlib.Omega.{arith}
 use mathlib.Core.Path.{_≡_, sym, ap, _∙_}
 use borrow.Author.Tests.{leb-true}
-use Rattle.hash_c.proofs.Outcomes.{no-bounds, no-room, written, failed, passed, long-key, short-key}
+use Rattle.hash_c.proofs.Outcomes.{no-bounds, no-room, written, long-key, short-key}
+use Rattle.numbers.proofs.Testing.{failed, passed}
 use borrow.Author.Needs.{needs}
 use Rattle.hash_c.proofs.hash_hmac.Statement.{statement}
 use Rattle.hash_c.proofs.hash_hmac.Tie as tie

@@ -6,7 +6,8 @@ use mathlib.Core.List.{List, _++_}
 use Prim.Native.Nat.{ℕ}
 use mathlib.Core.Path.{ap, _∙_}
 use borrow.Author.Tests.{leb-true}
-use Rattle.hash_c.proofs.Outcomes.{no-bounds, no-room, written, failed, passed}
+use Rattle.hash_c.proofs.Outcomes.{no-bounds, no-room, written}
+use Rattle.numbers.proofs.Testing.{failed, passed}
 use borrow.Author.Needs.{needs}
 use Rattle.hash_c.proofs.hash_sha256.Statement.{statement}
 use Rattle.hash_c.proofs.hash_sha256.Tie as tie

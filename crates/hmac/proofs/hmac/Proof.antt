@@ -1,18 +1,31 @@
--- `hmac` is the MAC from a prepared key, which is FIPS 198-1's. Assumes nothing.
-use Rattle.hmac.specs.Preparation.{macOf}
-use Rattle.hmac.specs.declared.Prepared.{Prepared}
-use mathlib.Core.List.{_++_}
+-- `hmac` hashes a key that is longer than a block first, as K₀ does. Assumes nothing.
+use Rattle.hmac.specs.Hmac.{hmac}
+use Rattle.sha256.specs.Computation.{sha256}
+use Prim.Native.Nat.{ℕ}
+use mathlib.Core.List.{List, _++_}
 use mathlib.Core.Path.{ap, _∙_}
-use Rattle.hmac.proofs.Macs.{mac-prepared}
+use Rattle.hmac.proofs.Macs.{hmac-long, no-more}
 use borrow.Author.Needs.{needs}
 use Rattle.hmac.proofs.hmac.Statement.{statement}
 use Rattle.hmac.proofs.hmac.Tie as tie
 
-returns : tie.Need-returns
-returns c =
-    let s = c .before .before .before .before .before .args in
+returns-2 : tie.Need-returns-2
+returns-2 c =
+    let s = c .before .before .before .before .before .before .before .before .before .args in
     let m = s .a .now ++ s .b .now in
-    c .mac .ensures ∙ ap (λ (k : Prepared). macOf k m) (c .before .prepare .ensures) ∙ mac-prepared (s .key .now) m
+    c .hmac-short2 .ensures
+    ∙ ap (λ (k : List ℕ). hmac k m) (c .before .before .sha256 .ensures ∙ ap sha256 (no-more (s .key .now)))
+    ∙ hmac-long (s .key .now) m (c .before .before .before .before .before .if1 .left)
 
 pub hmac-spec : {M : Type 1} → statement M
-hmac-spec = tie.close (tie.spec (λ c κs. search needs) (λ c κs. search needs) returns)
+hmac-spec =
+    tie.close
+    (tie.spec
+    (λ c κs. search needs)
+    (λ c. search needs)
+    (λ c. search needs)
+    (λ c κs. search needs)
+    (λ c. search needs)
+    (λ c κs. search needs)
+    (λ c. search needs)
+    returns-2)

@@ -1,0 +1,7 @@
+-- What is written reads back as what was written, and writing what was read gives the same bytes: of pages and of records, over the
+-- number of racks and the version.
+pub mod Headers
+pub mod PageBytes
+pub mod RecordBytes
+pub mod TestCases
+pub mod FirstRecord

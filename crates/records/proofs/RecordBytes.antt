@@ -1,0 +1,102 @@
+-- A record reads back as what was written, and is what its fields make, whatever the number of racks and the version.
+-- Assumes nothing.
+use mathlib.Core.Path.{_≡_, refl, sym, ap, ap₂, _∙_}
+use mathlib.Core.Bool.{true, and-eq-true-iff}
+use Prim.Native.Nat.{ℕ, _+_, _-_, _^_, _≤_, _<_}
+use native.Mathlib.Omega.{arith}
+use mathlib.Core.List.{List, [], _∷_, _++_, map, append-assoc, append-nil}
+use lib.ListN.{length, getD, length-append}
+use lib.Dec.{eqb}
+use borrow.Author.Tests.{eqb-true, eq-eqb}
+use Rattle.numbers.specs.Numbers.{be, bytesOf, Bytes}
+use Rattle.numbers.specs.Parts.{over, size, join}
+use Rattle.numbers.proofs.Numbers.{length-bytesOf, be-bytesOf}
+use Rattle.numbers.proofs.Bytes.{bytes-part}
+use Rattle.numbers.proofs.Parts.{length-part, over-over}
+use Rattle.numbers.proofs.Forms.{part-whole}
+use Rattle.numbers.proofs.Layouts.{length-join, join-cutAt}
+use Rattle.records.specs.Page.{hashSize}
+use Rattle.records.specs.Record.{stateSize, recordWidths, recordSize, fields, lengthField, versionField, stateBytes, summary, authenticator, recordOf, header, rightSize, rightVersion}
+use Rattle.records.proofs.Headers.{field-is}
+use Rattle.records.proofs.PageBytes.{cut-joined}
+
+module _ (n v : ℕ) (st su au : List ℕ) (s : length st ≡ stateSize n) (u : length su ≡ hashSize) (a : length au ≡ hashSize) where
+  -- ---- reading what was written
+
+  written : List (List ℕ)
+  written = bytesOf 2 (recordSize n - 2) ∷ bytesOf 1 v ∷ st ∷ su ∷ au ∷ []
+
+  widths : map length written ≡ recordWidths n
+  unfolding written
+  widths =
+      let l = length-bytesOf 2 (recordSize n - 2) in
+      let w = length-bytesOf 1 v in
+      cc
+
+  record-fields : fields n (recordOf n v st su au) ≡ written
+  unfolding recordOf written
+  record-fields = cut-joined (recordWidths n) written widths
+
+  pub length-record : length (recordOf n v st su au) ≡ recordSize n
+  unfolding recordOf written
+  length-record = length-join written ∙ ap size widths
+
+  pub record-state : stateBytes n (recordOf n v st su au) ≡ st
+  unfolding written
+  record-state = ap (λ (fs : List (List ℕ)). getD fs 2 []) record-fields
+
+  pub record-summary : summary n (recordOf n v st su au) ≡ su
+  unfolding written
+  record-summary = ap (λ (fs : List (List ℕ)). getD fs 3 []) record-fields
+
+  pub record-authenticator : authenticator n (recordOf n v st su au) ≡ au
+  unfolding written
+  record-authenticator = ap (λ (fs : List (List ℕ)). getD fs 4 []) record-fields
+
+  -- ---- a record that was written passes the tests of its size and its version
+
+  pub record-size : recordSize n - 2 < 256 ^ 2 → rightSize n (recordOf n v st su au) ≡ true
+  unfolding rightSize written
+  record-size short =
+      let field : be (lengthField n (recordOf n v st su au)) ≡ recordSize n - 2 =
+      ap (λ (fs : List (List ℕ)). be (getD fs 0 [])) record-fields ∙ be-bytesOf 2 (recordSize n - 2) short in
+      and-eq-true-iff _ _ .1 (eq-eqb _ _ length-record, eq-eqb _ _ field)
+
+  pub record-version : v < 256 ^ 1 → rightVersion n v (recordOf n v st su au) ≡ true
+  unfolding rightVersion written
+  record-version byte =
+      eq-eqb _ _ (ap (λ (fs : List (List ℕ)). be (getD fs 1 [])) record-fields ∙ be-bytesOf 1 v byte)
+
+  -- ---- the header comes first
+  pub record-begins : recordOf n v st su au ≡ header n v ++ st ++ su ++ au
+  unfolding recordOf header
+  record-begins = simp (append-assoc, append-nil)
+
+-- ---- writing what was read
+pub record-again : (n v : ℕ) (l : List ℕ) → Bytes l → rightSize n l ≡ true → rightVersion n v l ≡ true
+    → recordOf n v (stateBytes n l) (summary n l) (authenticator n l) ≡ l
+unfolding recordOf rightSize rightVersion
+record-again n v l bytes size version =
+    let both = and-eq-true-iff (eqb (length l) (recordSize n)) _ .0 size in
+    let long : length l ≡ recordSize n = eqb-true (length l) (recordSize n) (both .0) in
+    let first = field-is 2 (recordSize n - 2) (lengthField n l) (length-part 0 2 l (omega arith)) (bytes-part 0 2 l bytes) (eqb-true _ _ (both .1)) in
+    let second = field-is 1 v (versionField n l) (length-part 2 1 l (omega arith)) (bytes-part 2 1 l bytes) (eqb-true _ _ version) in
+    ap₂ (λ (x y : List ℕ). join (x ∷ y ∷ stateBytes n l ∷ summary n l ∷ authenticator n l ∷ [])) (sym first) (sym second)
+    ∙ join-cutAt 0 (recordWidths n) l
+    ∙ part-whole (recordSize n) l long
+
+-- ---- four pieces laid end to end
+pub laid-4 : (a b c d x₀ x₁ x₂ x₃ x₄ : List ℕ) → length a + length b + length c + length d ≤ length x₀
+    → x₁ ≡ over 0 a x₀ → x₂ ≡ over (length a) b x₁ → x₃ ≡ over (length a + length b) c x₂ → x₄ ≡ over (length a + length b + length c) d x₃
+    → x₄ ≡ over 0 (a ++ b ++ c ++ d) x₀
+laid-4 a b c d x₀ x₁ x₂ x₃ x₄ fits p q r s =
+    let second : x₂ ≡ over 0 (a ++ b) x₀ = q ∙ laid a b x₀ x₁ (length a) refl (omega arith) p in
+    let two : length a + length b ≡ length (a ++ b) = simp length-append in
+    let third : x₃ ≡ over 0 (a ++ b ++ c) x₀ = r ∙ laid (a ++ b) c x₀ x₂ (length a + length b) two (omega (arith, two)) second in
+    let three : length a + length b + length c ≡ length (a ++ b ++ c) = simp length-append in
+    s ∙ laid (a ++ b ++ c) d x₀ x₃ (length a + length b + length c) three (omega (arith, three)) third
+  where
+    laid : (v u x y : List ℕ) (n : ℕ) → n ≡ length v → length v ≤ length x → y ≡ over 0 v x → over n u y ≡ over 0 (v ++ u) x
+    laid v u x y n long room is =
+        let at : n ≡ 0 + length v = omega arith in
+        ap₂ (λ (m : ℕ) (z : List ℕ). over m u z) at is ∙ over-over 0 (length v) v x refl (omega arith) u

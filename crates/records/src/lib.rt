@@ -1,0 +1,31 @@
+// The page and the record in lent bytes: their parts where they lie, the tests 3, 4 and 5 of a record, and a
+// record written from its parts. The number of racks and the header are parameters: a form of record is
+// these two.
+mod pages;
+mod parts;
+mod testing;
+mod writing;
+
+pub use pages::page_key;
+pub use pages::page_summary;
+pub use parts::authenticator_part;
+pub use parts::state_part;
+pub use parts::summary_part;
+use refusals::Refusal;
+pub use testing::test_record;
+pub use writing::write_record;
+
+// How many bytes a hash takes: a summary, an authenticator, a key.
+pub const HASH_SIZE: usize = 32;
+
+// How many bytes a page takes.
+pub const PAGE_SIZE: usize = 64;
+
+// How many bytes stand before a record's racks: its length and its version.
+pub const HEADER_SIZE: usize = 3;
+
+// What the tests of a record's form and state find.
+pub enum Tested {
+    Passed,
+    Refused(Refusal),
+}

@@ -85,10 +85,9 @@ pub fn hmac(key: &[u8], a: &[u8], b: &[u8]) -> [u8; 32]
     requires { ⌜ length (now a) + length (now b) ≤ 65472 ⌝ }
     ensures { λ r. ⌜ r ≡ hmac (now (key .entry)) (now (a .entry) ++ now (b .entry)) ⌝ }
 {
-    if key.len() <= 64 {
-        hmac_short(key, a, b)
-    } else {
+    if 64 < key.len() {
         let hashed = sha256(key, &key[..0], &key[..0]);
-        hmac_short(&hashed, a, b)
+        return hmac_short(&hashed, a, b);
     }
+    hmac_short(key, a, b)
 }

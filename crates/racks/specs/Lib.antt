@@ -3,3 +3,4 @@ pub mod Racks
 pub mod Layout
 pub mod Rule
 pub mod Figures
+pub mod Edition

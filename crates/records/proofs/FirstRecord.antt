@@ -7,7 +7,7 @@ use Rattle.racks.specs.Racks.{firstState}
 use Rattle.racks.specs.Layout.{bytesOfState}
 use Rattle.racks.specs.Rule.{goodState}
 use Rattle.racks.proofs.FirstState.{bytesOfState-firstState, good-firstState}
-use Rattle.records.specs.Edition.{racks}
+use Rattle.racks.specs.Edition.{racks}
 
 pub first-state-bytes : bytesOfState (firstState racks) ≡ replicate 384 0
 first-state-bytes = bytesOfState-firstState racks

@@ -112,104 +112,88 @@ fn rounds_0_to_15(v: [u32; 8], w: [u32; 64]) -> [u32; 8]
     ensures { λ r. ⌜ r ≡ roundsFrom w 0 16 v ⌝ }
 {
     let k = K;
-    let v4 = round(
-        round(round(round(v, k[0], w[0]), k[1], w[1]), k[2], w[2]),
-        k[3],
-        w[3],
-    );
-    let v8 = round(
-        round(round(round(v4, k[4], w[4]), k[5], w[5]), k[6], w[6]),
-        k[7],
-        w[7],
-    );
-    let v12 = round(
-        round(round(round(v8, k[8], w[8]), k[9], w[9]), k[10], w[10]),
-        k[11],
-        w[11],
-    );
-    round(
-        round(round(round(v12, k[12], w[12]), k[13], w[13]), k[14], w[14]),
-        k[15],
-        w[15],
-    )
+    let v1 = round(v, k[0], w[0]);
+    let v2 = round(v1, k[1], w[1]);
+    let v3 = round(v2, k[2], w[2]);
+    let v4 = round(v3, k[3], w[3]);
+    let v5 = round(v4, k[4], w[4]);
+    let v6 = round(v5, k[5], w[5]);
+    let v7 = round(v6, k[6], w[6]);
+    let v8 = round(v7, k[7], w[7]);
+    let v9 = round(v8, k[8], w[8]);
+    let v10 = round(v9, k[9], w[9]);
+    let v11 = round(v10, k[10], w[10]);
+    let v12 = round(v11, k[11], w[11]);
+    let v13 = round(v12, k[12], w[12]);
+    let v14 = round(v13, k[13], w[13]);
+    let v15 = round(v14, k[14], w[14]);
+    round(v15, k[15], w[15])
 }
 
 fn rounds_16_to_31(v: [u32; 8], w: [u32; 64]) -> [u32; 8]
     ensures { λ r. ⌜ r ≡ roundsFrom w 16 16 v ⌝ }
 {
     let k = K;
-    let v4 = round(
-        round(round(round(v, k[16], w[16]), k[17], w[17]), k[18], w[18]),
-        k[19],
-        w[19],
-    );
-    let v8 = round(
-        round(round(round(v4, k[20], w[20]), k[21], w[21]), k[22], w[22]),
-        k[23],
-        w[23],
-    );
-    let v12 = round(
-        round(round(round(v8, k[24], w[24]), k[25], w[25]), k[26], w[26]),
-        k[27],
-        w[27],
-    );
-    round(
-        round(round(round(v12, k[28], w[28]), k[29], w[29]), k[30], w[30]),
-        k[31],
-        w[31],
-    )
+    let v1 = round(v, k[16], w[16]);
+    let v2 = round(v1, k[17], w[17]);
+    let v3 = round(v2, k[18], w[18]);
+    let v4 = round(v3, k[19], w[19]);
+    let v5 = round(v4, k[20], w[20]);
+    let v6 = round(v5, k[21], w[21]);
+    let v7 = round(v6, k[22], w[22]);
+    let v8 = round(v7, k[23], w[23]);
+    let v9 = round(v8, k[24], w[24]);
+    let v10 = round(v9, k[25], w[25]);
+    let v11 = round(v10, k[26], w[26]);
+    let v12 = round(v11, k[27], w[27]);
+    let v13 = round(v12, k[28], w[28]);
+    let v14 = round(v13, k[29], w[29]);
+    let v15 = round(v14, k[30], w[30]);
+    round(v15, k[31], w[31])
 }
 
 fn rounds_32_to_47(v: [u32; 8], w: [u32; 64]) -> [u32; 8]
     ensures { λ r. ⌜ r ≡ roundsFrom w 32 16 v ⌝ }
 {
     let k = K;
-    let v4 = round(
-        round(round(round(v, k[32], w[32]), k[33], w[33]), k[34], w[34]),
-        k[35],
-        w[35],
-    );
-    let v8 = round(
-        round(round(round(v4, k[36], w[36]), k[37], w[37]), k[38], w[38]),
-        k[39],
-        w[39],
-    );
-    let v12 = round(
-        round(round(round(v8, k[40], w[40]), k[41], w[41]), k[42], w[42]),
-        k[43],
-        w[43],
-    );
-    round(
-        round(round(round(v12, k[44], w[44]), k[45], w[45]), k[46], w[46]),
-        k[47],
-        w[47],
-    )
+    let v1 = round(v, k[32], w[32]);
+    let v2 = round(v1, k[33], w[33]);
+    let v3 = round(v2, k[34], w[34]);
+    let v4 = round(v3, k[35], w[35]);
+    let v5 = round(v4, k[36], w[36]);
+    let v6 = round(v5, k[37], w[37]);
+    let v7 = round(v6, k[38], w[38]);
+    let v8 = round(v7, k[39], w[39]);
+    let v9 = round(v8, k[40], w[40]);
+    let v10 = round(v9, k[41], w[41]);
+    let v11 = round(v10, k[42], w[42]);
+    let v12 = round(v11, k[43], w[43]);
+    let v13 = round(v12, k[44], w[44]);
+    let v14 = round(v13, k[45], w[45]);
+    let v15 = round(v14, k[46], w[46]);
+    round(v15, k[47], w[47])
 }
 
 fn rounds_48_to_63(v: [u32; 8], w: [u32; 64]) -> [u32; 8]
     ensures { λ r. ⌜ r ≡ roundsFrom w 48 16 v ⌝ }
 {
     let k = K;
-    let v4 = round(
-        round(round(round(v, k[48], w[48]), k[49], w[49]), k[50], w[50]),
-        k[51],
-        w[51],
-    );
-    let v8 = round(
-        round(round(round(v4, k[52], w[52]), k[53], w[53]), k[54], w[54]),
-        k[55],
-        w[55],
-    );
-    let v12 = round(
-        round(round(round(v8, k[56], w[56]), k[57], w[57]), k[58], w[58]),
-        k[59],
-        w[59],
-    );
-    round(
-        round(round(round(v12, k[60], w[60]), k[61], w[61]), k[62], w[62]),
-        k[63],
-        w[63],
-    )
+    let v1 = round(v, k[48], w[48]);
+    let v2 = round(v1, k[49], w[49]);
+    let v3 = round(v2, k[50], w[50]);
+    let v4 = round(v3, k[51], w[51]);
+    let v5 = round(v4, k[52], w[52]);
+    let v6 = round(v5, k[53], w[53]);
+    let v7 = round(v6, k[54], w[54]);
+    let v8 = round(v7, k[55], w[55]);
+    let v9 = round(v8, k[56], w[56]);
+    let v10 = round(v9, k[57], w[57]);
+    let v11 = round(v10, k[58], w[58]);
+    let v12 = round(v11, k[59], w[59]);
+    let v13 = round(v12, k[60], w[60]);
+    let v14 = round(v13, k[61], w[61]);
+    let v15 = round(v14, k[62], w[62]);
+    round(v15, k[63], w[63])
 }
 
 // All 64 rounds.

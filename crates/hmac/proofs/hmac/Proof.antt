@@ -9,23 +9,23 @@ use borrow.Author.Needs.{needs}
 use Rattle.hmac.proofs.hmac.Statement.{statement}
 use Rattle.hmac.proofs.hmac.Tie as tie
 
-returns-2 : tie.Need-returns-2
-returns-2 c =
+returns : tie.Need-returns
+returns c =
     let s = c .before .before .before .before .before .before .before .before .before .args in
     let m = s .a .now ++ s .b .now in
-    c .hmac-short2 .ensures
+    c .hmac-short .ensures
     ∙ ap (λ (k : List ℕ). hmac k m) (c .before .before .sha256 .ensures ∙ ap sha256 (no-more (s .key .now)))
-    ∙ hmac-long (s .key .now) m (c .before .before .before .before .before .if1 .left)
+    ∙ hmac-long (s .key .now) m (c .before .before .before .before .before .if1 .taken)
 
 pub hmac-spec : {M : Type 1} → statement M
 hmac-spec =
     tie.close
     (tie.spec
-    (λ c κs. search needs)
     (λ c. search needs)
     (λ c. search needs)
     (λ c κs. search needs)
     (λ c. search needs)
     (λ c κs. search needs)
-    (λ c. search needs)
-    returns-2)
+    returns
+    (λ c κs. search needs)
+    (λ c. search needs))

@@ -1,0 +1,45 @@
+-- Document 01, 'Layouts': a request is ten bytes: length 8 (the count of bytes after it), version 1, kind 1, rack 1, other 1 and
+-- amount 4, big-endian. One list of widths serves reading and writing. Assumes nothing.
+use Prim.Native.Nat.{ℕ, _-_}
+use mathlib.Core.List.{List, [], _∷_}
+use lib.ListN.{getD}
+use Rattle.numbers.specs.Numbers.{be, bytesOf}
+use Rattle.numbers.specs.Parts.{size, cutAt, join}
+
+-- the widths of the fields, in their order: length, version, kind, rack, other, amount
+abbrev pub requestWidths : List ℕ
+requestWidths = 2 ∷ 1 ∷ 1 ∷ 1 ∷ 1 ∷ 4 ∷ []
+
+-- how many bytes a request takes
+abbrev pub requestSize : ℕ
+requestSize = size requestWidths
+
+-- field number i of a request's bytes
+abbrev pub field : ℕ → List ℕ → ℕ
+field i l = be (getD (cutAt 0 requestWidths l) i [])
+
+abbrev pub lengthField : List ℕ → ℕ
+lengthField l = field 0 l
+
+abbrev pub version : List ℕ → ℕ
+version l = field 1 l
+
+abbrev pub kind : List ℕ → ℕ
+kind l = field 2 l
+
+abbrev pub rack : List ℕ → ℕ
+rack l = field 3 l
+
+abbrev pub other : List ℕ → ℕ
+other l = field 4 l
+
+abbrev pub amount : List ℕ → ℕ
+amount l = field 5 l
+
+-- the bytes of the fields of a request of version 1: kind k, rack i, other o and amount a
+abbrev pub fieldsOfRequest : ℕ → ℕ → ℕ → ℕ → List (List ℕ)
+fieldsOfRequest k i o a = bytesOf 2 (requestSize - 2) ∷ bytesOf 1 1 ∷ bytesOf 1 k ∷ bytesOf 1 i ∷ bytesOf 1 o ∷ bytesOf 4 a ∷ []
+
+-- the bytes of such a request
+unfoldable pub bytesOfRequest : ℕ → ℕ → ℕ → ℕ → List ℕ
+bytesOfRequest k i o a = join (fieldsOfRequest k i o a)

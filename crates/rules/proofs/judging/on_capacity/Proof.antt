@@ -1,0 +1,18 @@
+-- `on_capacity` meets its contract: 9 is its only test. Assumes nothing.
+use mathlib.Core.Path.{refl}
+use borrow.Author.Tests.{lt-ltb, le-ltb}
+use Rattle.rules.specs.Rules.{overCapacity, overStored, overLimit}
+use Rattle.rules.proofs.Tests.{verdict-is}
+use Rattle.rules.proofs.judging.on_capacity.Statement.{statement}
+use Rattle.rules.proofs.judging.on_capacity.Tie as tie
+
+returns : tie.Need-returns
+unfolding overCapacity
+returns c = verdict-is _ _ (lt-ltb _ _ (c .if1 .taken)) refl refl
+
+returns-2 : tie.Need-returns-2
+unfolding overCapacity overStored overLimit
+returns-2 c = verdict-is _ _ (le-ltb _ _ (c .if1 .left)) refl refl
+
+pub on-capacity-spec : {M : Type 1} → statement M
+on-capacity-spec = tie.close (tie.spec returns returns-2)

@@ -1,0 +1,41 @@
+-- What a request's bytes do to a state of n racks, and what requests give in order: the service that the history of a page is
+-- replayed with. Well-formedness is inside, so that a replay which gives a state says that each request was well formed.
+-- Assumes nothing.
+use Prim.Native.Nat.{ℕ}
+use mathlib.Core.List.{List, [], _∷_}
+use Rattle.racks.specs.Racks.{State}
+use Rattle.refusals.specs.declared.Refusal.{Refusal}
+use Rattle.refusals.specs.declared.Refusal.the-variants.{Request as RequestRefusal}
+use Rattle.requests.specs.declared.Reading.{Reading}
+use Rattle.requests.specs.declared.Reading.the-variants.{Formed, Malformed}
+use Rattle.requests.specs.Requests.{readRequest}
+use Rattle.rules.specs.declared.Verdict.{Verdict}
+use Rattle.rules.specs.declared.Verdict.the-variants.{Free, Barred}
+use Rattle.rules.specs.Rules.{verdict, carryOut}
+
+-- what comes of a request, or of a row of them
+pub data Booked : Type 0 where
+  booked : State → Booked
+  refused : Refusal → Booked
+
+abbrev pub byVerdict : Verdict → State → Booked
+byVerdict Free s = booked s
+byVerdict (Barred r) s = refused r
+
+abbrev pub byReading : State → Reading → Booked
+byReading s Malformed = refused RequestRefusal
+byReading s (Formed q) = byVerdict (verdict s q) (carryOut s q)
+
+-- one request's bytes on a state of n racks
+unfoldable pub book : ℕ → State → List ℕ → Booked
+book n s l = byReading s (readRequest n l)
+
+-- requests in order: the first refusal ends it
+
+abbrev pub andThen : (State → Booked) → Booked → Booked
+andThen next (booked s) = next s
+andThen next (refused r) = refused r
+
+unfoldable pub replay : ℕ → State → List (List ℕ) → Booked
+replay n s [] = booked s
+replay n s (l ∷ ls) = andThen (λ t. replay n t ls) (book n s l)

@@ -1,6 +1,6 @@
 -- An outcome by its cases: the bounds are not met, the buffer is too short, or the answer is written. Assumes nothing.
 use mathlib.Core.Path.{_≡_, sym, ap, _∙_}
-use mathlib.Core.Bool.{Bool, true, false, not}
+use mathlib.Core.Bool.{Bool, true, false, cond}
 use Prim.Native.Nat.{ℕ, _+_, _-_, _≤_, _<_}
 use native.Mathlib.Decide.{decLe}
 use native.Mathlib.Nat.{lt-of-not-le}
@@ -8,9 +8,8 @@ use native.Mathlib.Omega.{arith}
 use mathlib.Core.List.{List}
 use lib.ListN.{length}
 use lib.Dec.{leb}
-use borrow.Author.Tests.{le-leb, lt-leb, not-true, not-false}
+use borrow.Author.Tests.{le-leb, lt-leb}
 use Rattle.numbers.specs.Parts.{over}
-use Rattle.hmac.specs.Hmac.{pick}
 use Rattle.hash_c.specs.Outcome.{Outcome, refused, answered}
 
 pub no-bounds : (b : Bool) (answer d : List ℕ) → b ≡ false → refused d ≡ answered b answer d
@@ -18,22 +17,22 @@ no-bounds b answer d e = ap {B = Outcome} (λ (t : Bool). answered t answer d) (
 
 pub no-room : (b : Bool) (answer d : List ℕ) → b ≡ true → length d < 32 → refused d ≡ answered b answer d
 no-room b answer d e short =
-    ap {B = Outcome} (λ (t : Bool). pick t (record { code = 0; out = over 0 answer d }) (refused d)) (sym (lt-leb 32 (length d) short))
+    ap {B = Outcome} (λ (t : Bool). cond t (record { code = 0; out = over 0 answer d }) (refused d)) (sym (lt-leb 32 (length d) short))
     ∙ ap {B = Outcome} (λ (t : Bool). answered t answer d) (sym e)
 
 pub written : (b : Bool) (answer d o : List ℕ) → b ≡ true → 32 ≤ length d → o ≡ over 0 answer d
     → _≡_ {A = Outcome} (record { code = 0; out = o }) (answered b answer d)
 written b answer d o e room so =
     ap {B = Outcome} (λ (l : List ℕ). record { code = 0; out = l }) so
-    ∙ ap {B = Outcome} (λ (t : Bool). pick t (record { code = 0; out = over 0 answer d }) (refused d)) (sym (le-leb 32 (length d) room))
+    ∙ ap {B = Outcome} (λ (t : Bool). cond t (record { code = 0; out = over 0 answer d }) (refused d)) (sym (le-leb 32 (length d) room))
     ∙ ap {B = Outcome} (λ (t : Bool). answered t answer d) (sym e)
 
 -- the key's bound is tested before the others
-pub long-key : (key : List ℕ) (o : Outcome) (d : List ℕ) → 256 < length key → refused d ≡ pick (leb (length key) 256) o (refused d)
-long-key key o d long = ap {B = Outcome} (λ (t : Bool). pick t o (refused d)) (sym (lt-leb (length key) 256 long))
+pub long-key : (key : List ℕ) (o : Outcome) (d : List ℕ) → 256 < length key → refused d ≡ cond (leb (length key) 256) o (refused d)
+long-key key o d long = ap {B = Outcome} (λ (t : Bool). cond t o (refused d)) (sym (lt-leb (length key) 256 long))
 
-pub short-key : (key : List ℕ) (o : Outcome) (d : List ℕ) → length key ≤ 256 → o ≡ pick (leb (length key) 256) o (refused d)
-short-key key o d short = ap {B = Outcome} (λ (t : Bool). pick t o (refused d)) (sym (le-leb (length key) 256 short))
+pub short-key : (key : List ℕ) (o : Outcome) (d : List ℕ) → length key ≤ 256 → o ≡ cond (leb (length key) 256) o (refused d)
+short-key key o d short = ap {B = Outcome} (λ (t : Bool). cond t o (refused d)) (sym (le-leb (length key) 256 short))
 
 -- a sum that is compared by differences
 pub by-differences : (a b c most : ℕ) → a ≤ most → b ≤ most - a → leb c (most - a - b) ≡ leb (a + b + c) most

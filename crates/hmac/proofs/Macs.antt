@@ -1,6 +1,6 @@
 -- The MAC from a prepared key is FIPS 198-1's: each pad is one block, and the hashes go on behind it. Assumes nothing.
 use mathlib.Core.Path.{_≡_, refl, sym, ap, ap₂, _∙_}
-use mathlib.Core.Bool.{Bool, true, false}
+use mathlib.Core.Bool.{Bool, true, false, cond}
 use Prim.Native.Nat.{ℕ, _-_, _≤_, _<_}
 use native.Mathlib.Omega.{arith}
 use mathlib.Core.List.{List, [], _++_, append-nil}
@@ -15,7 +15,7 @@ use Rattle.sha256.specs.Continued.{sha256After}
 use Rattle.sha256.proofs.ContinuedLaws.{sha256-after}
 use Rattle.sha256.proofs.DigestLaws.{length-sha256}
 use Rattle.hmac.specs.declared.Prepared.{Prepared}
-use Rattle.hmac.specs.Hmac.{B, L, K₀, ipad, opad, _⊕_, pick, hmac}
+use Rattle.hmac.specs.Hmac.{B, L, K₀, ipad, opad, _⊕_, hmac}
 use Rattle.hmac.specs.Preparation.{afterBlock, preparedOf, macOf}
 use Rattle.hmac.proofs.Pads.{xor-repeated}
 
@@ -28,9 +28,9 @@ module _ (K : List ℕ) where
   zeroed : List ℕ
   zeroed = K ++ replicate (B - length K) 0
 
-  by-size : (b c : Bool) → eqb (length K) B ≡ b → ltb B (length K) ≡ c → K₀ K ≡ pick b K (pick c hashed zeroed)
+  by-size : (b c : Bool) → eqb (length K) B ≡ b → ltb B (length K) ≡ c → K₀ K ≡ cond b K (cond c hashed zeroed)
   unfolding K₀ hashed zeroed
-  by-size b c same longer = ap₂ (λ (s t : Bool). pick s K (pick t hashed zeroed)) same longer
+  by-size b c same longer = ap₂ (λ (s t : Bool). cond s K (cond t hashed zeroed)) same longer
 
   -- a key of at most a block: zeros up to a block, none where it is one
   pub K₀-short : length K ≤ B → K₀ K ≡ K ++ replicate (B - length K) 0

@@ -1,7 +1,7 @@
 -- FIPS 198-1, section 4, with the approved hash function H = SHA-256 (FIPS 180-4): the steps of its Table 1, and the whole MAC
 -- (no truncation). B is the block size of the hash in bytes, L its output size. Assumes nothing.
 use Prim.Native.Nat.{ℕ, _-_}
-use mathlib.Core.Bool.{Bool, true, false}
+use mathlib.Core.Bool.{cond}
 use mathlib.Core.List.{List, [], _∷_, _++_}
 use lib.ListN.{length, replicate}
 use lib.Dec.{eqb, ltb}
@@ -29,16 +29,12 @@ unfoldable pub _⊕_ : List ℕ → List ℕ → List ℕ
 (x ∷ l) ⊕ [] = []
 (x ∷ l) ⊕ (y ∷ m) = bitXor x y ∷ l ⊕ m
 
-abbrev pub pick {ℓ} : {X : Type ℓ} → Bool → X → X → X
-pick true x y = x
-pick false x y = y
-
 -- steps 1 to 3: a key of B bytes is K₀ itself; a longer one is hashed, and B - L zeros appended; to a shorter one zeros are
 -- appended up to B bytes
 unfoldable pub K₀ : List ℕ → List ℕ
 K₀ K =
-    pick (eqb (length K) B) K
-    (pick (ltb B (length K)) (sha256 K ++ replicate (B - L) 0) (K ++ replicate (B - length K) 0))
+    cond (eqb (length K) B) K
+    (cond (ltb B (length K)) (sha256 K ++ replicate (B - L) 0) (K ++ replicate (B - length K) 0))
 
 -- steps 4 to 9: H((K₀ ⊕ opad) ‖ H((K₀ ⊕ ipad) ‖ text))
 unfoldable pub hmac : List ℕ → List ℕ → List ℕ

@@ -1,6 +1,6 @@
 -- The three tests by their cases. Assumes nothing.
 use mathlib.Core.Path.{_≡_, refl, sym, ap, ap₂, _∙_}
-use mathlib.Core.Bool.{Bool, true, false}
+use mathlib.Core.Bool.{Bool, true, false, cond}
 use Prim.Native.Nat.{ℕ, _/_}
 use native.Mathlib.Nat.{mul-div-cancel}
 use native.Mathlib.Omega.{arith}
@@ -13,15 +13,15 @@ use Rattle.racks.specs.Rule.{goodState}
 use Rattle.numbers.proofs.Parts.{length-part}
 use Rattle.records.specs.declared.Tested.the-variants.{Passed, Refused}
 use Rattle.records.specs.Record.{recordSize, stateSize, stateBytes, rightSize, rightVersion, rightState}
-use Rattle.records.specs.Tests.{tested, pick}
+use Rattle.records.specs.Tests.{tested}
 
 -- the tests' own values
 by-tests : (n v : ℕ) (l : List ℕ) (a b c : Bool) → rightSize n l ≡ a → rightVersion n v l ≡ b → rightState n l ≡ c
-    → tested n v l ≡ pick a (pick b (pick c Passed (Refused State)) (Refused Version)) (Refused Record)
+    → tested n v l ≡ cond a (cond b (cond c Passed (Refused State)) (Refused Version)) (Refused Record)
 unfolding tested
 by-tests n v l a b c p q r =
-    ap₂ (λ (x y : Bool). pick x (pick y (pick (rightState n l) Passed (Refused State)) (Refused Version)) (Refused Record)) p q
-    ∙ ap (λ (z : Bool). pick a (pick b (pick z Passed (Refused State)) (Refused Version)) (Refused Record)) r
+    ap₂ (λ (x y : Bool). cond x (cond y (cond (rightState n l) Passed (Refused State)) (Refused Version)) (Refused Record)) p q
+    ∙ ap (λ (z : Bool). cond a (cond b (cond z Passed (Refused State)) (Refused Version)) (Refused Record)) r
 
 pub refused-3 : (n v : ℕ) (l : List ℕ) → rightSize n l ≡ false → Refused Record ≡ tested n v l
 refused-3 n v l p = sym (by-tests n v l false _ _ p refl refl)

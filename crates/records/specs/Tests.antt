@@ -1,22 +1,18 @@
 -- Document 01, 'Numbers of refusal', rows 3, 4 and 5: what the tests of a record's form and state find, in the order of the
 -- numbers. Assumes nothing.
 use Prim.Native.Nat.{ℕ}
-use mathlib.Core.Bool.{Bool, true, false}
+use mathlib.Core.Bool.{cond}
 use mathlib.Core.List.{List}
 use Rattle.refusals.specs.declared.Refusal.the-variants.{Record, Version, State}
 use Rattle.records.specs.declared.Tested.{Tested}
 use Rattle.records.specs.declared.Tested.the-variants.{Passed, Refused}
 use Rattle.records.specs.Record.{rightSize, rightVersion, rightState}
 
-abbrev pub pick {ℓ} : {X : Type ℓ} → Bool → X → X → X
-pick true x y = x
-pick false x y = y
-
 -- the first that applies is the answer
 unfoldable pub tested : ℕ → ℕ → List ℕ → Tested
 tested n v l =
-    pick (rightSize n l)
-    (pick (rightVersion n v l)
-    (pick (rightState n l) Passed (Refused State))
+    cond (rightSize n l)
+    (cond (rightVersion n v l)
+    (cond (rightState n l) Passed (Refused State))
     (Refused Version))
     (Refused Record)

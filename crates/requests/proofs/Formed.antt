@@ -1,7 +1,7 @@
 -- What is known of bytes that are well formed, and of a request that was read.
 -- The idea: the definition is a chain of tests, and each of them passed. Assumes nothing.
 use mathlib.Core.Path.{_≡_, refl, sym}
-use mathlib.Core.Bool.{Bool, true, false, not, _&&_, _||_, true≢false, false≢true}
+use mathlib.Core.Bool.{Bool, true, false, not, _&&_, _||_, true≢false, false≢true, cond}
 use Prim.Native.Nat.{ℕ, zero, suc, _-_, _≤_, _<_}
 use native.Mathlib.Omega.{arith}
 use mathlib.Core.List.{List, [], _∷_}
@@ -13,7 +13,7 @@ use Rattle.requests.specs.declared.Request.{Request}
 use Rattle.requests.specs.declared.Reading.the-variants.{Formed, Malformed}
 use Rattle.requests.specs.Layout.{requestSize, lengthField, version, kind, rack, other, amount}
 use Rattle.requests.specs.Formed.{rightForm, rightOther, rightAmount, wellFormed}
-use Rattle.requests.specs.Requests.{pick, requestBy, requestOf, readRequest}
+use Rattle.requests.specs.Requests.{requestBy, requestOf, readRequest}
 use Rattle.requests.specs.Range.{InRange}
 use Rattle.requests.proofs.Chains.{each-passed}
 use Rattle.requests.proofs.Tests.{form-is}
@@ -79,7 +79,7 @@ fields n (suc (suc (suc (suc zero)))) i o a low high none r =
 fields n (suc (suc (suc (suc (suc k))))) i o a low high none r = absurd (omega arith)
 
 -- what was read was well formed, and is what its fields ask
-picked : (b : Bool) (p q : Request) → pick b (Formed p) Malformed ≡ Formed q → (b ≡ true) × (p ≡ q)
+picked : (b : Bool) (p q : Request) → cond b (Formed p) Malformed ≡ Formed q → (b ≡ true) × (p ≡ q)
 picked true p q e = (refl, cc)
 picked false p q e = let z : _≡_ {A = ℕ} 0 1 = cc in absurd (omega arith)
 

@@ -1,6 +1,6 @@
 -- What a request's bytes ask: one value, whatever the form of the bytes. The rules read this value alone. Assumes nothing.
 use Prim.Native.Nat.{ℕ}
-use mathlib.Core.Bool.{Bool, true, false}
+use mathlib.Core.Bool.{Bool, true, false, cond}
 use mathlib.Core.List.{List}
 use lib.Dec.{eqb}
 use Rattle.requests.specs.declared.Request.{Request}
@@ -10,16 +10,12 @@ use Rattle.requests.specs.declared.Reading.the-variants.{Formed, Malform
 use Rattle.requests.specs.Layout.{kind, rack, other, amount}
 use Rattle.requests.specs.Formed.{wellFormed}
 
-abbrev pub pick {ℓ} : {X : Type ℓ} → Bool → X → X → X
-pick true x y = x
-pick false x y = y
-
 -- what kind k, rack i, other o and amount a ask: kinds 1, 2, 3 and 4, in their order
 unfoldable pub requestBy : ℕ → ℕ → ℕ → ℕ → Request
 requestBy k i o a =
-    pick (eqb k 1) (Capacity i a)
-    (pick (eqb k 2) (Charge i a)
-    (pick (eqb k 3) (Discharge i a)
+    cond (eqb k 1) (Capacity i a)
+    (cond (eqb k 2) (Charge i a)
+    (cond (eqb k 3) (Discharge i a)
     (Move i o a)))
 
 -- what the fields of bytes ask
@@ -28,7 +24,7 @@ requestOf l = requestBy (kind l) (rack l) (other l) (amount l)
 
 -- the request that bytes stand for, among n racks
 unfoldable pub readRequest : ℕ → List ℕ → Reading
-readRequest n l = pick (wellFormed n l) (Formed (requestOf l)) Malformed
+readRequest n l = cond (wellFormed n l) (Formed (requestOf l)) Malformed
 
 -- the rack that a request names first
 abbrev pub rackOfRequest : Request → ℕ

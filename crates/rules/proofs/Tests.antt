@@ -1,7 +1,7 @@
 -- The verdict from the answers of its tests, in the order in which the code asks them; a test that is not reached stands as it is.
 -- The idea: an answer is put in the place of its test. Assumes nothing.
 use mathlib.Core.Path.{_≡_, sym, _∙_}
-use mathlib.Core.Bool.{Bool, _||_}
+use mathlib.Core.Bool.{Bool, _||_, cond}
 use Prim.Native.Nat.{ℕ, _+_, _-_, _≤_, _<_}
 use native.Mathlib.Nat.{lt-of-not-le}
 use native.Mathlib.Decide.{decLe}
@@ -15,13 +15,13 @@ use Rattle.racks.specs.Rule.{flowLimit}
 use Rattle.refusals.specs.declared.Refusal.the-variants.{Capacity as CapacityRefusal, Stored, Limit}
 use Rattle.requests.specs.declared.Request.{Request}
 use Rattle.requests.specs.declared.Request.the-variants.{Capacity, Charge, Discharge, Move}
-use Rattle.requests.specs.Requests.{pick, arrives}
+use Rattle.requests.specs.Requests.{arrives}
 use Rattle.rules.specs.declared.Verdict.the-variants.{Free, Barred}
 use Rattle.rules.specs.Rules.{overCapacity, overStored, overLimit, verdict}
 
 -- 9, 10 and 11
 pub verdict-is : (s : State) (q : Request) {a b c : Bool} → overCapacity s q ≡ a → overStored s q ≡ b → overLimit s q ≡ c
-    → pick a (Barred CapacityRefusal) (pick b (Barred Stored) (pick c (Barred Limit) Free)) ≡ verdict s q
+    → cond a (Barred CapacityRefusal) (cond b (Barred Stored) (cond c (Barred Limit) Free)) ≡ verdict s q
 unfolding verdict
 verdict-is s q p r t = rw (p, r, t)
 

@@ -1,7 +1,7 @@
 -- What a verdict says: a request that nothing bars passes every test of the rules.
 -- The idea: the verdict is a chain of tests, and only its end is `Free`. Assumes nothing.
 use mathlib.Core.Path.{_≡_, refl}
-use mathlib.Core.Bool.{Bool, true, false, _||_, true≢false}
+use mathlib.Core.Bool.{Bool, true, false, _||_, true≢false, cond}
 use Prim.Native.Nat.{ℕ, _≤_}
 use native.Mathlib.Omega.{arith}
 use borrow.Author.Tests.{ltb-false}
@@ -9,7 +9,7 @@ use Rattle.racks.specs.Racks.{State, rackAt}
 use Rattle.refusals.specs.declared.Refusal.the-variants.{Capacity as CapacityRefusal, Stored, Limit}
 use Rattle.requests.specs.declared.Request.{Request}
 use Rattle.requests.specs.declared.Request.the-variants.{Capacity, Charge, Discharge, Move}
-use Rattle.requests.specs.Requests.{pick, arrives}
+use Rattle.requests.specs.Requests.{arrives}
 use Rattle.rules.specs.declared.Verdict.the-variants.{Free, Barred}
 use Rattle.rules.specs.Rules.{overCapacity, overStored, overLimit, verdict}
 use Rattle.rules.specs.Ready.{TakesIn, GivesOut}
@@ -20,7 +20,7 @@ neither true b e = absurd (true≢false e)
 neither false b e = (refl, e)
 
 -- only the end of the chain is `Free`
-chosen : (a b c : Bool) → pick a (Barred CapacityRefusal) (pick b (Barred Stored) (pick c (Barred Limit) Free)) ≡ Free
+chosen : (a b c : Bool) → cond a (Barred CapacityRefusal) (cond b (Barred Stored) (cond c (Barred Limit) Free)) ≡ Free
     → (a ≡ false) × (b ≡ false) × (c ≡ false)
 chosen true b c e = let z : _≡_ {A = ℕ} 0 1 = cc in absurd (omega arith)
 chosen false true c e = let z : _≡_ {A = ℕ} 0 1 = cc in absurd (omega arith)

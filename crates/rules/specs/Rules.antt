@@ -2,7 +2,7 @@
 -- changes. Capacity: the rack's capacity becomes amount. Charge: stored and taken in rise by amount. Discharge: stored falls and
 -- given out rises by amount. Move: the rack discharges and other charges the same amount. Assumes nothing.
 use Prim.Native.Nat.{ℕ, _+_, _-_}
-use mathlib.Core.Bool.{Bool, false, _||_}
+use mathlib.Core.Bool.{Bool, false, _||_, cond}
 use lib.Dec.{ltb}
 use lib.ListN.{set}
 use Rattle.racks.specs.declared.Rack.{Rack}
@@ -11,7 +11,7 @@ use Rattle.racks.specs.Rule.{flowLimit}
 use Rattle.refusals.specs.declared.Refusal.the-variants.{Capacity as CapacityRefusal, Stored, Limit}
 use Rattle.requests.specs.declared.Request.{Request}
 use Rattle.requests.specs.declared.Request.the-variants.{Capacity, Charge, Discharge, Move}
-use Rattle.requests.specs.Requests.{pick, arrives}
+use Rattle.requests.specs.Requests.{arrives}
 use Rattle.rules.specs.declared.Verdict.{Verdict}
 use Rattle.rules.specs.declared.Verdict.the-variants.{Free, Barred}
 
@@ -39,7 +39,7 @@ overLimit s (Move i o a) = ltb flowLimit (rackAt s o .taken + arrives (Move i o 
 -- tests are made in the order of the numbers, and the first that applies is the answer
 unfoldable pub verdict : State → Request → Verdict
 verdict s q =
-    pick (overCapacity s q) (Barred CapacityRefusal) (pick (overStored s q) (Barred Stored) (pick (overLimit s q) (Barred Limit) Free))
+    cond (overCapacity s q) (Barred CapacityRefusal) (cond (overStored s q) (Barred Stored) (cond (overLimit s q) (Barred Limit) Free))
 
 -- a rack after each of the three changes
 abbrev pub withCapacity : ℕ → Rack → Rack

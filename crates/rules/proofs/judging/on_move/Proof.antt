@@ -1,6 +1,6 @@
 -- `on_move` meets its contract: its tests are 9, 10 and the two halves of 11, in this order. Assumes nothing.
 use mathlib.Core.Path.{_≡_, refl, sym, _∙_}
-use mathlib.Core.Bool.{Bool, _||_}
+use mathlib.Core.Bool.{Bool, _||_, cond}
 use Prim.Native.Nat.{_+_}
 use mathlib.Core.List.{[], _∷_}
 use lib.Dec.{ltb}
@@ -8,7 +8,6 @@ use borrow.Author.Tests.{lt-ltb, le-ltb}
 use Rattle.racks.specs.Rule.{flowLimit}
 use Rattle.refusals.specs.declared.Refusal.the-variants.{Limit}
 use Rattle.requests.specs.declared.Request.the-variants.{Move}
-use Rattle.requests.specs.Requests.{pick}
 use Rattle.rules.specs.declared.Verdict.the-variants.{Free, Barred}
 use Rattle.rules.specs.Rules.{overCapacity, overStored, verdict}
 use Rattle.rules.proofs.Tests.{verdict-is, limit-is}
@@ -31,7 +30,7 @@ abbrev start : tie.Else2 → tie.Start
 start c = c .before .before .before .before .before .before
 
 eleven : (c : tie.Else2) {b d : Bool} → ltb flowLimit (start c .args .o .taken + start c .args .amount) ≡ b → ltb flowLimit (start c .args .r .given + start c .args .amount) ≡ d
-    → pick (b || d) (Barred Limit) Free ≡ verdict (start c .args .r ∷ start c .args .o ∷ []) (Move 0 1 (start c .args .amount))
+    → cond (b || d) (Barred Limit) Free ≡ verdict (start c .args .r ∷ start c .args .o ∷ []) (Move 0 1 (start c .args .amount))
 unfolding overCapacity overStored
 eleven c taken given =
     let nine = c .before .before in

@@ -13,6 +13,9 @@ pub use rule::good_rack;
 pub use rule::good_state;
 pub use writing::write_rack;
 
+// How many racks a book has, in this edition.
+pub const RACKS: usize = 16;
+
 // How many bytes a rack takes.
 pub const RACK_SIZE: usize = 24;
 

@@ -4,4 +4,4 @@ pub mod Headers
 pub mod PageBytes
 pub mod RecordBytes
 pub mod TestCases
-pub mod FirstRecord
+pub mod ThisEdition

@@ -1,11 +1,15 @@
 // The page and the record in lent bytes: their parts where they lie, the tests 3, 4 and 5 of a record, and a
 // record written from its parts. The number of racks and the header are parameters: a form of record is
 // these two.
+mod edition;
 mod pages;
 mod parts;
 mod testing;
 mod writing;
 
+pub use edition::first_state;
+pub use edition::test_book;
+pub use edition::write_book;
 pub use pages::page_key;
 pub use pages::page_summary;
 pub use parts::authenticator_part;

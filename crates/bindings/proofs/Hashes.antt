@@ -1,0 +1,25 @@
+-- Every hash takes 32 bytes, and a prepared key gives the authenticator. Assumes nothing.
+use mathlib.Core.Path.{_≡_}
+use Prim.Native.Nat.{ℕ}
+use mathlib.Core.List.{List, _++_}
+use lib.ListN.{length}
+use Rattle.sha256.proofs.DigestLaws.{length-sha256}
+use Rattle.hmac.specs.Preparation.{preparedOf, macOf}
+use Rattle.hmac.proofs.Macs.{mac-prepared}
+use Rattle.bindings.specs.Hashed.{stateMessage, summaryMessage, bindingMessage, stateHash, nextSummary, binding, authenticatorOf}
+
+pub length-stateHash : (state : List ℕ) → length (stateHash state) ≡ 32
+unfolding stateHash
+length-stateHash state = length-sha256 (stateMessage state)
+
+pub length-nextSummary : (summary request : List ℕ) → length (nextSummary summary request) ≡ 32
+unfolding nextSummary
+length-nextSummary summary request = length-sha256 (summaryMessage summary request)
+
+pub length-binding : (summary hash : List ℕ) → length (binding summary hash) ≡ 32
+unfolding binding
+length-binding summary hash = length-sha256 (bindingMessage summary hash)
+
+pub authenticator-prepared : (key prefix bound : List ℕ) → macOf (preparedOf key) (prefix ++ bound) ≡ authenticatorOf key prefix bound
+unfolding authenticatorOf
+authenticator-prepared key prefix bound = mac-prepared key (prefix ++ bound)

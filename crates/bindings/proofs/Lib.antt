@@ -1,0 +1,2 @@
+-- The laws of what is hashed that other crates cite.
+pub mod Hashes

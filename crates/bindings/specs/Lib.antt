@@ -1,0 +1,2 @@
+-- Document 01, 'What is hashed'.
+pub mod Hashed

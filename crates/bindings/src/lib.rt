@@ -1,0 +1,34 @@
+// What is hashed, document 01: the state hash, the next summary and the binding. Each message is hashed in
+// pieces where they lie, behind a byte that says its kind. The authenticator is `hmac::mac` of the binding.
+use sha256::sha256;
+ghost use mathlib.Core.Path.{_≡_};
+ghost use Prim.Native.Nat.{_+_, _≤_};
+ghost use lib.ListN.{length};
+ghost use Rattle.bindings.specs.Hashed.{stateHash, nextSummary, binding};
+
+// The hash of a state.
+pub fn state_hash(state: &[u8]) -> [u8; 32]
+    requires { ⌜ length (now state) ≤ 65535 ⌝ }
+    ensures { λ r. ⌜ r ≡ stateHash (now (state .entry)) ⌝ }
+{
+    let tag = [0x01u8];
+    sha256(&tag, state, &state[..0])
+}
+
+// The summary of a history that one more request ends.
+pub fn next_summary(summary: &[u8], request: &[u8]) -> [u8; 32]
+    requires { ⌜ length (now summary) + length (now request) ≤ 65535 ⌝ }
+    ensures { λ r. ⌜ r ≡ nextSummary (now (summary .entry)) (now (request .entry)) ⌝ }
+{
+    let tag = [0x02u8];
+    sha256(&tag, summary, request)
+}
+
+// The binding of a state, by its hash, to a summary.
+pub fn binding(summary: &[u8], hash: &[u8]) -> [u8; 32]
+    requires { ⌜ length (now summary) + length (now hash) ≤ 65535 ⌝ }
+    ensures { λ r. ⌜ r ≡ binding (now (summary .entry)) (now (hash .entry)) ⌝ }
+{
+    let tag = [0x03u8];
+    sha256(&tag, summary, hash)
+}

@@ -1,5 +1,5 @@
 -- `request_of` meets its contract: the fields are read, and the arm taken is the case of the kind. Assumes nothing.
-use mathlib.Core.Path.{_≡_}
+use mathlib.Core.Path.{_≡_, refl}
 use borrow.Author.Tests.{ne-eqb}
 use Rattle.requests.specs.Requests.{requestBy, requestOf}
 use borrow.Author.Needs.{needs}
@@ -11,7 +11,8 @@ fields : (c : tie.After-read32)
     → requestBy (c .before .before .before .byte .result) (c .before .before .byte2 .result) (c .before .byte3 .result) (c .read32 .result)
     ≡ requestOf (c .before .before .before .before .before .args .s .now)
 unfolding requestOf
-fields c = cc
+fields c =
+    rw (c .before .before .before .byte .ensures, c .before .before .byte2 .ensures, c .before .byte3 .ensures, c .read32 .ensures) refl
 
 returns : tie.Need-returns
 unfolding requestBy

@@ -4,6 +4,7 @@ use Prim.Native.Nat.{ℕ}
 use mathlib.Core.List.{List, _++_}
 use lib.ListN.{length}
 use Rattle.sha256.proofs.DigestLaws.{length-sha256}
+use Rattle.hmac.specs.Hmac.{hmac}
 use Rattle.hmac.specs.Preparation.{preparedOf, macOf}
 use Rattle.hmac.proofs.Macs.{mac-prepared}
 use Rattle.bindings.specs.Hashed.{stateMessage, summaryMessage, bindingMessage, stateHash, nextSummary, binding, authenticatorOf}
@@ -19,6 +20,10 @@ length-nextSummary summary request = length-sha256 (summaryMessage summary reque
 pub length-binding : (summary hash : List ℕ) → length (binding summary hash) ≡ 32
 unfolding binding
 length-binding summary hash = length-sha256 (bindingMessage summary hash)
+
+pub length-authenticator : (key prefix bound : List ℕ) → length (authenticatorOf key prefix bound) ≡ 32
+unfolding authenticatorOf hmac
+length-authenticator key prefix bound = length-sha256 _
 
 pub authenticator-prepared : (key prefix bound : List ℕ) → macOf (preparedOf key) (prefix ++ bound) ≡ authenticatorOf key prefix bound
 unfolding authenticatorOf

@@ -1,10 +1,14 @@
 // What is hashed, document 01: the state hash, the next summary and the binding. Each message is hashed in
-// pieces where they lie, behind a byte that says its kind. The authenticator is `hmac::mac` of the binding.
+// pieces where they lie, behind a byte that says its kind. The authenticator is the MAC of
+// the binding.
+use hmac::Prepared;
+use hmac::mac;
 use sha256::sha256;
 ghost use mathlib.Core.Path.{_≡_};
 ghost use Prim.Native.Nat.{_+_, _≤_};
 ghost use lib.ListN.{length};
-ghost use Rattle.bindings.specs.Hashed.{stateHash, nextSummary, binding};
+ghost use Rattle.hmac.specs.Preparation.{macOf};
+ghost use Rattle.bindings.specs.Hashed.{stateHash, nextSummary, binding, bindingOf};
 
 // The hash of a state.
 pub fn state_hash(state: &[u8]) -> [u8; 32]
@@ -31,4 +35,15 @@ pub fn binding(summary: &[u8], hash: &[u8]) -> [u8; 32]
 {
     let tag = [0x03u8];
     sha256(&tag, summary, hash)
+}
+
+// The authenticator of a state bound to a summary, under a key that has been worked out.
+pub fn authenticator_of(key: Prepared, summary: &[u8], state: &[u8]) -> [u8; 32]
+    requires { ⌜ length (now summary) ≡ 32 ⌝ }
+    requires { ⌜ length (now state) ≤ 65535 ⌝ }
+    ensures { λ r. ⌜ r ≡ macOf key (bindingOf (now (summary .entry)) (now (state .entry))) ⌝ }
+{
+    let hash = state_hash(state);
+    let bound = binding(summary, &hash);
+    mac(key, &summary[..0], &bound)
 }

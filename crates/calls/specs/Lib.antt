@@ -1,0 +1,3 @@
+-- What the answers of perform and repeat say, and what carrying a request out answers.
+pub mod Told
+pub mod Carried

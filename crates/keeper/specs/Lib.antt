@@ -1,0 +1,3 @@
+-- What resume hands back, and what a C caller gets.
+pub mod Lent
+pub mod Numbers

@@ -1,0 +1,57 @@
+// The keeper: the five calls of this edition, for callers in Rattle here and for C in `c`. Each takes every content and
+// length of what it is lent; a refusal changes no byte. 16 racks and the header 01 C1 01 are said here.
+mod c;
+
+use calls::PerformAnswer;
+use opens::OpenAnswer;
+use racks::RACKS;
+use views::ViewAnswer;
+use views::Which;
+use views::choose;
+ghost use mathlib.Core.Path.{_≡_};
+ghost use Rattle.answers.specs.Answers.{opened, performed, repeated, viewed, resumed};
+ghost use Rattle.answers.specs.Edition.{thisEdition};
+ghost use Rattle.opens.specs.Told.{toldOpen};
+ghost use Rattle.calls.specs.Told.{told};
+ghost use Rattle.views.specs.Told.{toldView};
+ghost use Rattle.keeper.specs.Lent.{Lent, handedBack};
+
+// Open: the first record, with summary zero and its authenticator; the page stays as it is.
+pub fn open(page: &[u8], answer: &mut [u8]) -> OpenAnswer
+    ensures { λ r. ⌜ toldOpen r (now (page .entry)) (now (answer .exit)) ≡ opened thisEdition (now (page .entry)) (now (answer .entry)) ⌝ }
+{
+    opens::open(page, answer)
+}
+
+// Perform: the request is carried out on the record, the next record is written, and the page moves on.
+pub fn perform(page: &mut [u8], record: &[u8], request: &[u8], answer: &mut [u8]) -> PerformAnswer
+    ensures { λ r. ⌜ told r (now (page .exit)) (now (answer .exit)) ≡ performed thisEdition (now (page .entry)) (now («record» .entry)) (now (request .entry)) (now (answer .entry)) ⌝ }
+{
+    calls::perform(page, record, request, answer, b"\x01\xC1\x01", RACKS)
+}
+
+// Repeat: the record that perform wrote for the page's last request is written again; the page stays as it is.
+pub fn repeat(page: &[u8], record: &[u8], request: &[u8], answer: &mut [u8]) -> PerformAnswer
+    ensures { λ r. ⌜ told r (now (page .entry)) (now (answer .exit)) ≡ repeated thisEdition (now (page .entry)) (now («record» .entry)) (now (request .entry)) (now (answer .entry)) ⌝ }
+{
+    calls::repeat(page, record, request, answer, b"\x01\xC1\x01", RACKS)
+}
+
+// View: a rack's stored, capacity and percent, and the total over all racks; nothing is written.
+pub fn view(page: &[u8], record: &[u8], rack: u32) -> ViewAnswer
+    ensures { λ r. ⌜ toldView r ≡ viewed thisEdition (now (page .entry)) (now («record» .entry)) rack ⌝ }
+{
+    views::view(page, record, rack as usize, b"\x01\xC1\x01", RACKS)
+}
+
+// Resume: the current one of two records, itself, as a part of the caller's own buffer: the one in RAM if both are, and
+// the empty part at the start of RAM's if neither is.
+pub fn resume<'a>(page: &[u8], ram: &'a [u8], disk: &'a [u8]) -> &'a [u8]
+    ensures { λ r. ⌜ _≡_ {A = Lent} (record { at = r .ptr; bytes = now r }) (handedBack (resumed thisEdition (now (page .entry)) (now (ram .entry)) (now (disk .entry))) (record { at = ram .entry .ptr; bytes = now (ram .entry) }) (record { at = disk .entry .ptr; bytes = now (disk .entry) })) ⌝ }
+{
+    match choose(page, ram, disk, b"\x01\xC1\x01", RACKS) {
+        Which::Ram => ram,
+        Which::Disk => disk,
+        Which::Neither => &ram[..0],
+    }
+}

@@ -1,0 +1,2 @@
+-- The bytes of the next record's state.
+pub mod Next

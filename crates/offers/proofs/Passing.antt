@@ -1,0 +1,121 @@
+-- What is known once tests 1 to 6 have passed: of the record, of the request and of the rack. Assumes nothing.
+use mathlib.Core.Path.{_≡_, refl}
+use mathlib.Core.Bool.{Bool, true, false, cond}
+use Prim.Native.Nat.{ℕ, _≤_}
+use native.Mathlib.Omega.{arith}
+use mathlib.Core.List.{List}
+use lib.ListN.{length}
+use lib.Dec.{eqb, leb}
+use borrow.Author.Tests.{eqb-true, leb-true, ltb-true}
+use Rattle.refusals.specs.declared.Refusal.{Refusal}
+use Rattle.refusals.specs.declared.Refusal.the-variants.{Page, Answer, Request as RequestRefusal, Record, Version, State}
+use Rattle.racks.specs.Rule.{goodState}
+use Rattle.requests.specs.declared.Request.{Request}
+use Rattle.requests.specs.Layout.{requestSize}
+use Rattle.requests.specs.Formed.{wellFormed}
+use Rattle.requests.specs.Requests.{requestOf, readRequest}
+use Rattle.requests.specs.Range.{Named, InRange}
+use Rattle.requests.proofs.Formed.{read-formed, in-range, formed-form}
+use Rattle.records.specs.declared.Tested.{Tested}
+use Rattle.records.specs.declared.Tested.the-variants.{Passed, Refused}
+use Rattle.records.specs.Page.{pageSize}
+use Rattle.records.specs.Record.{stateSize, recordSize, state, rightSize, rightVersion, rightState, Described}
+use Rattle.records.specs.Tests.{tested}
+use Rattle.records.proofs.Headers.{right-length}
+use Rattle.answers.specs.Judging.{unless, andThen}
+use Rattle.offers.specs.declared.Offer.the-variants.{Formed as FormedOffer, Refused as RefusedOffer}
+use Rattle.offers.specs.Offers.{offeredAt, lookedAt, offerBy, Offered, Offering, Looked}
+
+-- ---- an offer
+
+pub offer-passed : (t : Tested) (x q : Request) → offerBy t x ≡ FormedOffer q → (t ≡ Passed) × (x ≡ q)
+offer-passed Passed x q e = (refl, cc)
+offer-passed (Refused r) x q e = let z : _≡_ {A = ℕ} 0 1 = cc in absurd (omega arith)
+
+pub offer-refused : (t : Tested) (x : Request) (r : Refusal) → offerBy t x ≡ RefusedOffer r → t ≡ Refused r
+offer-refused Passed x r e = let z : _≡_ {A = ℕ} 0 1 = cc in absurd (omega arith)
+offer-refused (Refused s) x r e = cc
+
+-- ---- tests that have passed
+
+pub both : (s t : Tested) → andThen s t ≡ Passed → (s ≡ Passed) × (t ≡ Passed)
+both Passed t e = (refl, e)
+both (Refused r) t e = let z : _≡_ {A = ℕ} 0 1 = cc in absurd (omega arith)
+
+pub held : (b : Bool) (r : Refusal) → unless b r ≡ Passed → b ≡ true
+held true r e = refl
+held false r e = let z : _≡_ {A = ℕ} 0 1 = cc in absurd (omega arith)
+
+pub offered : (n v page room : ℕ) (l request : List ℕ) (q : Request) → offeredAt n v page room l request ≡ Passed → requestOf request ≡ q → Offered n v page room l request q
+unfolding readRequest
+offered n v page room l request q tests asks =
+    let one = both (unless (eqb page pageSize) Page) _ tests in
+    let two = both (unless (leb (recordSize n) room) Answer) _ (one .1) in
+    let five = both (tested n v l) _ (two .1) in
+    let six : wellFormed n request ≡ true = held (wellFormed n request) RequestRefusal (five .1) in
+    record {
+      size = eqb-true page pageSize (held _ Page (one .0));
+      answer = leb-true (recordSize n) room (held _ Answer (two .0));
+      passed = five .0;
+      read = rw (six, asks) refl;
+    }
+
+pub looked : (n v page : ℕ) (l : List ℕ) (rack : ℕ) → lookedAt n v page l rack ≡ Passed → Looked n v page l rack
+looked n v page l rack tests =
+    let one = both (unless (eqb page pageSize) Page) _ tests in
+    let five = both (tested n v l) _ (one .1) in
+    record {
+      size = eqb-true page pageSize (held _ Page (one .0));
+      passed = five .0;
+      inside = ltb-true rack n (held _ RequestRefusal (five .1));
+    }
+
+-- ---- a record whose tests have passed
+
+all-three : (a b d : Bool) → cond a (cond b (cond d Passed (Refused State)) (Refused Version)) (Refused Record) ≡ Passed → (a ≡ true) × (d ≡ true)
+all-three true true true e = (refl, refl)
+all-three true true false e = let z : _≡_ {A = ℕ} 0 1 = cc in absurd (omega arith)
+all-three true false d e = let z : _≡_ {A = ℕ} 0 1 = cc in absurd (omega arith)
+all-three false b d e = let z : _≡_ {A = ℕ} 0 1 = cc in absurd (omega arith)
+
+module _ (n v : ℕ) (l : List ℕ) (passed : tested n v l ≡ Passed) where
+  pub passed-length : length l ≡ recordSize n
+  unfolding tested
+  passed-length = right-length n l (all-three (rightSize n l) (rightVersion n v l) (rightState n l) passed .0)
+
+  pub passed-good : goodState (state n l) ≡ true
+  unfolding tested rightState
+  passed-good = all-three (rightSize n l) (rightVersion n v l) (rightState n l) passed .1
+
+-- ---- what follows for an offer, and for a look
+
+module _ (n v page room : ℕ) (l request : List ℕ) (q : Request) (o : Offered n v page room l request q) where
+  pub offered-length : length l ≡ recordSize n
+  offered-length = passed-length n v l (o .passed)
+
+  pub offered-good : goodState (state n l) ≡ true
+  offered-good = passed-good n v l (o .passed)
+
+  pub offered-request : length request ≡ requestSize
+  offered-request = formed-form n request (read-formed n request q (o .read) .0) .size
+
+  pub offered-range : InRange n q
+  offered-range = in-range n request q (o .read)
+
+  pub offered-named : Named n q
+  offered-named = offered-range .named
+
+  pub offering : Offering n v room l q
+  offering = record { answer = o .answer; passed = o .passed; range = offered-range }
+
+module _ (n v page : ℕ) (l : List ℕ) (rack : ℕ) (o : Looked n v page l rack) where
+  pub looked-length : length l ≡ recordSize n
+  looked-length = passed-length n v l (o .passed)
+
+  pub looked-good : goodState (state n l) ≡ true
+  looked-good = passed-good n v l (o .passed)
+
+-- ---- a form of record is short
+
+pub bound : (n : ℕ) (header : List ℕ) → Described n header → stateSize n ≤ 65535
+bound n header described = let short = described .short in omega arith

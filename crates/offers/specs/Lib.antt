@@ -1,0 +1,2 @@
+-- The tests of what is offered to a call.
+pub mod Offers

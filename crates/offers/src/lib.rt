@@ -1,0 +1,16 @@
+// What is offered to a call: the tests of it in the order of their numbers, 1 to 6, and test 7, the authenticator.
+// Records and requests are read where they lie; the number of racks and the header are parameters.
+mod testing;
+mod validity;
+
+use refusals::Refusal;
+use requests::Request;
+pub use testing::test_look;
+pub use testing::test_offer;
+pub use validity::valid;
+
+// What the tests find: the request, or the first refusal.
+pub enum Offer {
+    Formed(Request),
+    Refused(Refusal),
+}

@@ -1,0 +1,3 @@
+-- What is proved of open.
+pub mod First
+pub mod Cases

@@ -1,0 +1,2 @@
+-- What the answers of open say.
+pub mod Told

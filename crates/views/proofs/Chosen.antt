@@ -1,0 +1,75 @@
+-- Resume by its cases: the first test that fails makes a record not current, and RAM's goes before the disk's. Assumes nothing.
+use mathlib.Core.Path.{_≡_, refl, sym, _∙_}
+use mathlib.Core.Bool.{Bool, true, false}
+use Prim.Native.Nat.{ℕ, _≤_}
+use mathlib.Core.List.{List}
+use lib.ListN.{length}
+use lib.Dec.{eqb}
+use borrow.Author.Tests.{eq-eqb, ne-eqb}
+use Rattle.numbers.specs.Comparing.{same}
+use Rattle.refusals.specs.declared.Refusal.{Refusal}
+use Rattle.refusals.specs.declared.Refusal.the-variants.{Page}
+use Rattle.records.specs.declared.Tested.{Tested}
+use Rattle.records.specs.declared.Tested.the-variants.{Passed, Refused}
+use Rattle.records.specs.Page.{pageSize, pageSummary}
+use Rattle.records.specs.Record.{stateSize, recordSize, stateBytes, summary, Described}
+use Rattle.records.specs.Tests.{tested}
+use Rattle.offers.proofs.Passing.{passed-length, bound}
+use Rattle.answers.specs.Design.{Design, Served}
+use Rattle.answers.specs.Hashing.{valid}
+use Rattle.answers.specs.Judging.{unless, andThen, judged, resumeVerdict}
+use Rattle.answers.specs.Answers.{Resumed, isGood, resumedBy, resumed}
+use Rattle.answers.specs.Edition.{design}
+
+-- ---- whether one record is current
+
+good-is : (c : Bool) (state : List ℕ) → c ≡ isGood (judged Passed true c (Served.carried state))
+good-is true state = refl
+good-is false state = refl
+
+module _ (n v : ℕ) (page l : List ℕ) where
+  -- the tests' own values
+  current-by : (a b c : Bool) (t : Tested) → eqb (length page) pageSize ≡ a → tested n v l ≡ t → valid (design n v) page l ≡ b → same (summary n l) (pageSummary page) ≡ c
+      → isGood (judged (andThen (unless a Page) t) b c (Served.carried (stateBytes n l))) ≡ isGood (resumeVerdict (design n v) page l)
+  unfolding resumeVerdict
+  current-by a b c t p q r s = cc
+
+  pub not-paged : (length page ≡ pageSize → ⊥) → false ≡ isGood (resumeVerdict (design n v) page l)
+  not-paged other = current-by false _ _ _ (ne-eqb (length page) pageSize other) refl refl refl
+
+  module _ (size : length page ≡ pageSize) (t : Tested) (test : t ≡ tested n v l) where
+    pub not-tested : (r : Refusal) → t ≡ Refused r → false ≡ isGood (resumeVerdict (design n v) page l)
+    not-tested r found = current-by true _ _ (Refused r) (eq-eqb (length page) pageSize size) (sym test ∙ found) refl refl
+
+    module _ (passed : t ≡ Passed) where
+      pub not-valid : valid (design n v) page l ≡ false → false ≡ isGood (resumeVerdict (design n v) page l)
+      not-valid forged = current-by true false _ Passed (eq-eqb (length page) pageSize size) (sym test ∙ passed) forged refl
+
+      pub is-current : valid (design n v) page l ≡ true → (c : Bool) → c ≡ same (summary n l) (pageSummary page) → c ≡ isGood (resumeVerdict (design n v) page l)
+      is-current ok c is = good-is c (stateBytes n l) ∙ current-by true true c Passed (eq-eqb (length page) pageSize size) (sym test ∙ passed) ok (sym is)
+
+-- parts of lent bytes are compared where they lie
+pub parts-compared : {r : Bool} {a b : List ℕ} (x y : List ℕ) → r ≡ same a b → a ≡ x → b ≡ y → r ≡ same x y
+parts-compared x y is p q = cc
+
+-- a record whose tests have passed is as test 7 needs it
+pub tested-ready : (n v : ℕ) (header l : List ℕ) (t : Tested) → Described n header → t ≡ tested n v l → t ≡ Passed → (length l ≡ recordSize n) × (stateSize n ≤ 65535)
+tested-ready n v header l t described test passed = (passed-length n v l (sym test ∙ passed), bound n header described)
+
+-- ---- which of the two
+
+module _ (D : Design) (page inRam onDisk : List ℕ) where
+  chosen : (a b : Bool) → a ≡ isGood (resumeVerdict D page inRam) → b ≡ isGood (resumeVerdict D page onDisk) → resumedBy a b ≡ resumed D page inRam onDisk
+  unfolding resumed
+  chosen a b p q = cc
+
+  module _ (a : Bool) (ram : a ≡ isGood (resumeVerdict D page inRam)) where
+    pub chosen-ram : a ≡ true → Resumed.ram ≡ resumed D page inRam onDisk
+    chosen-ram first = chosen true _ (sym first ∙ ram) refl
+
+    module _ (other : a ≡ false) (b : Bool) (disk : b ≡ isGood (resumeVerdict D page onDisk)) where
+      pub chosen-disk : b ≡ true → Resumed.disk ≡ resumed D page inRam onDisk
+      chosen-disk second = chosen false true (sym other ∙ ram) (sym second ∙ disk)
+
+      pub chosen-neither : b ≡ false → Resumed.neither ≡ resumed D page inRam onDisk
+      chosen-neither none = chosen false false (sym other ∙ ram) (sym none ∙ disk)

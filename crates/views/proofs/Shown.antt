@@ -1,0 +1,121 @@
+-- View by its cases: what is refused gives its number and zeros, and past the tests are the figures. Assumes nothing.
+use mathlib.Core.Path.{_≡_, refl, sym, ap, ap₂, _∙_}
+use mathlib.Core.Bool.{Bool, true, false, cond}
+use Prim.Native.Nat.{ℕ, _*_, _/_, _^_, _≤_, _<_}
+use native.Mathlib.Omega.{arith}
+use native.Mathlib.Nat.{mul-div-cancel}
+use mathlib.Core.List.{List}
+use lib.ListN.{length}
+use lib.Dec.{ltb, lit<}
+use borrow.Author.Tests.{lt-ltb, le-ltb}
+use Rattle.numbers.specs.Parts.{part}
+use Rattle.numbers.specs.Comparing.{same}
+use Rattle.numbers.proofs.Parts.{length-part}
+use Rattle.refusals.specs.declared.Refusal.{Refusal}
+use Rattle.refusals.specs.declared.Refusal.the-variants.{Authenticator, Current, Total}
+use Rattle.racks.specs.declared.Rack.{Rack}
+use Rattle.racks.specs.Racks.{State, rackAt}
+use Rattle.racks.specs.Layout.{rackSize, rackOf, stateOf}
+use Rattle.racks.specs.Rule.{goodRack, goodState}
+use Rattle.racks.specs.Figures.{percent, totalStored}
+use Rattle.racks.proofs.StatePlaces.{rackAt-stateOf}
+use Rattle.racks.proofs.StateRule.{good-at}
+use Rattle.rules.specs.Ready.{racksIn, stateIn}
+use Rattle.records.specs.declared.Tested.{Tested}
+use Rattle.records.specs.declared.Tested.the-variants.{Passed, Refused}
+use Rattle.records.specs.Page.{pageSummary}
+use Rattle.records.specs.Record.{stateSize, recordSize, stateBytes, summary, state, Described}
+use Rattle.offers.specs.Offers.{lookedAt, Looked}
+use Rattle.offers.proofs.Passing.{looked, looked-length, looked-good, bound}
+use Rattle.answers.specs.Design.{Design, Served}
+use Rattle.answers.specs.Hashing.{valid}
+use Rattle.answers.specs.Judging.{judged, afterEarly, afterCurrent, shown, viewVerdict}
+use Rattle.answers.specs.Answers.{Viewed, viewedBy, viewed}
+use Rattle.answers.specs.Edition.{figuresOf, design}
+use Rattle.views.specs.declared.ViewAnswer.the-variants.{Seen, Refused as RefusedView}
+use Rattle.views.specs.Told.{toldView}
+
+-- ---- tests 1 to 6
+
+module _ (n v : ℕ) (page l : List ℕ) (rack : ℕ) (t : Tested) (test : t ≡ lookedAt n v (length page) l rack) where
+  viewed-by : viewedBy (design n v) rack (judged t (valid (design n v) page l) (same (summary n l) (pageSummary page)) (shown (design n v) (stateBytes n l) rack))
+      ≡ viewed (design n v) page l rack
+  unfolding viewed viewVerdict
+  viewed-by = ap (λ (x : Tested). viewedBy (design n v) rack (judged x (valid (design n v) page l) (same (summary n l) (pageSummary page)) (shown (design n v) (stateBytes n l) rack))) test
+
+  pub view-early : (r : Refusal) → t ≡ Refused r → toldView (RefusedView r) ≡ viewed (design n v) page l rack
+  view-early r found = rw found at viewed-by
+
+  pub view-late : (x : Viewed) → t ≡ Passed
+      → x ≡ viewedBy (design n v) rack (afterEarly (valid (design n v) page l) (same (summary n l) (pageSummary page)) (shown (design n v) (stateBytes n l) rack))
+      → x ≡ viewed (design n v) page l rack
+  view-late x found is = is ∙ (rw found at viewed-by)
+
+  pub view-looked : t ≡ Passed → Looked n v (length page) l rack
+  view-looked found = looked n v (length page) l rack (sym test ∙ found)
+
+-- ---- tests 7 and 8
+
+module _ (D : Design) (rack : ℕ) (b c : Bool) (s : Served) where
+  pub view-forged : b ≡ false → toldView (RefusedView Authenticator) ≡ viewedBy D rack (afterEarly b c s)
+  view-forged forged = ap (λ (x : Bool). viewedBy D rack (afterEarly x c s)) (sym forged)
+
+  pub view-stale : b ≡ true → c ≡ false → toldView (RefusedView Current) ≡ viewedBy D rack (afterEarly b c s)
+  view-stale ok stale = ap₂ (λ (x y : Bool). viewedBy D rack (afterEarly x y s)) (sym ok) (sym stale)
+
+  pub view-current : (x : Viewed) → b ≡ true → c ≡ true → x ≡ viewedBy D rack (afterCurrent s) → x ≡ viewedBy D rack (afterEarly b c s)
+  view-current x ok current is = is ∙ ap₂ (λ (y z : Bool). viewedBy D rack (afterEarly y z s)) (sym ok) (sym current)
+
+-- ---- test 12 and the figures
+
+-- what view says of a state's rack, by whether the total fits
+abbrev byTotal : Bool → State → ℕ → Viewed
+byTotal b s i = cond b record { number = 0; figures = figuresOf s i } (toldView (RefusedView Total))
+
+module _ (n v : ℕ) (l : List ℕ) (rack : ℕ) where
+  by-total : (b : Bool) → ltb (totalStored (stateOf n l)) (256 ^ 4) ≡ b
+      → viewedBy (design n v) rack (afterCurrent (shown (design n v) l rack)) ≡ byTotal b (stateOf n l) rack
+  by-total true e = rw e refl
+  by-total false e = rw e refl
+
+  pub view-over : (total : ℕ) → total ≡ totalStored (stateOf n l) → 256 ^ 4 ≤ total
+      → toldView (RefusedView Total) ≡ viewedBy (design n v) rack (afterCurrent (shown (design n v) l rack))
+  view-over total is over = sym (by-total false (le-ltb (totalStored (stateOf n l)) (256 ^ 4) (omega arith)))
+
+  pub view-seen : (total full : ℕ) (r : Rack) → total ≡ totalStored (stateOf n l) → total < 256 ^ 4 → r ≡ rackOf (part (rack * rackSize) rackSize l) → rack < n → full ≡ percent r
+      → toldView (Seen (r .stored) (r .capacity) full total) ≡ viewedBy (design n v) rack (afterCurrent (shown (design n v) l rack))
+  view-seen total full r is fits reads inside share =
+      let at : r ≡ rackAt (stateOf n l) rack = reads ∙ sym (rackAt-stateOf n l rack inside) in
+      let p : full ≡ percent (rackAt (stateOf n l) rack) = share ∙ ap percent at in
+      rw (by-total true (lt-ltb (totalStored (stateOf n l)) (256 ^ 4) (omega arith)), is, p, at) refl
+
+  pub seen-good : (r : Rack) → goodState (stateOf n l) ≡ true → r ≡ rackOf (part (rack * rackSize) rackSize l) → rack < n → goodRack r ≡ true
+  seen-good r good reads inside = rw (reads, ← rackAt-stateOf n l rack inside) (good-at (stateOf n l) rack good)
+
+-- ---- what tests 7, 8 and 12 need
+
+pub looked-ready : (n v page : ℕ) (header l : List ℕ) (rack : ℕ) → Described n header → Looked n v page l rack → (length l ≡ recordSize n) × (stateSize n ≤ 65535)
+looked-ready n v page header l rack described o = (looked-length n v page l rack o, bound n header described)
+
+module _ (n v page : ℕ) (header l : List ℕ) (rack : ℕ) (st : List ℕ) (described : Described n header) (o : Looked n v page l rack) (is : st ≡ stateBytes n l) where
+  state-length : length st ≡ stateSize n
+  state-length = ap length is ∙ length-part 3 (stateSize n) l (omega (arith, looked-length n v page l rack o))
+
+  state-racks : racksIn st ≡ n
+  state-racks = ap (λ (m : ℕ). m / rackSize) state-length ∙ mul-div-cancel n (lit< tt)
+
+  pub state-ready : (length st ≤ 65535) × ((goodState (stateIn st) ≡ true) × (rack < racksIn st))
+  state-ready = (
+    rw state-length (bound n header described),
+    (rw (state-racks, is) (looked-good n v page l rack o), rw state-racks (o .inside)),
+  )
+
+  -- the figures of the state are the record's, whatever the version
+  pub state-viewed : (x : Viewed) → x ≡ viewedBy (design (racksIn st) 0) rack (afterCurrent (shown (design (racksIn st) 0) st rack))
+      → x ≡ viewedBy (design n v) rack (afterCurrent (shown (design n v) (stateBytes n l) rack))
+  state-viewed x e =
+      let equal : stateIn st ≡ state n l = rw (state-racks, is) refl in
+      e
+      ∙ by-total (racksIn st) 0 st rack _ refl
+      ∙ ap (λ (s : State). byTotal (ltb (totalStored s) (256 ^ 4)) s rack) equal
+      ∙ sym (by-total n v (stateBytes n l) rack _ refl)

@@ -1,0 +1,34 @@
+-- The total is tested, and the rack is read where it lies. Assumes nothing.
+use native.Mathlib.Omega.{arith}
+use Rattle.views.proofs.Shown.{view-over, view-seen, seen-good}
+use borrow.Author.Needs.{needs}
+use Rattle.views.proofs.viewing.figures.Statement.{statement}
+use Rattle.views.proofs.viewing.figures.Tie as tie
+
+returns : tie.Need-returns
+returns c =
+    let s = c .before .before .before .args in
+    view-over _ 0 (s .state .now) (s .rack) (c .before .total-stored .result) (c .before .total-stored .ensures) (omega (arith, c .if1 .taken))
+
+percent-requires : tie.Need-percent-requires
+percent-requires c κs =
+    let s = c .before .before .before .before in
+    seen-good _ 0 (s .args .state .now) (s .args .rack) _ (s .pre .1 .0) (c .read-rack .ensures) (s .pre .1 .1)
+
+returns-2 : tie.Need-returns-2
+returns-2 c =
+    let o = c .before .before in
+    let s = o .before .before .before in
+    view-seen _ 0 (s .args .state .now) (s .args .rack) (o .before .total-stored .result) _ _ (o .before .total-stored .ensures) (omega (arith, o .if1 .left)) (c .before .read-rack .ensures) (s .pre .1 .1) (c .percent .ensures)
+
+pub figures-spec : {M : Type 1} → statement M
+figures-spec =
+    tie.close
+    (tie.spec
+    (λ c κs. search needs)
+    returns
+    (λ c. search needs)
+    (λ c. search needs)
+    (λ c κs. search needs)
+    percent-requires
+    returns-2)

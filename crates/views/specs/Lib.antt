@@ -1,0 +1,2 @@
+-- What the answers of view and resume say.
+pub mod Told

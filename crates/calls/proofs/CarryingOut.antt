@@ -23,7 +23,8 @@ use Rattle.records.specs.Page.{hashSize}
 use Rattle.records.specs.Record.{stateSize, recordSize, stateBytes, summary, recordOf}
 use Rattle.hmac.specs.declared.Prepared.{Prepared}
 use Rattle.hmac.specs.Preparation.{macOf}
-use Rattle.bindings.specs.Hashed.{bindingOf}
+use Rattle.bindings.specs.Hashed.{nextSummary, bindingOf}
+use Rattle.bindings.proofs.Hashes.{length-nextSummary}
 use Rattle.next_records.specs.Next.{nextBytes}
 use Rattle.next_records.proofs.InRecord.{state-in}
 use Rattle.offers.specs.Offers.{Offered, Offering}
@@ -31,7 +32,11 @@ use Rattle.offers.proofs.Passing.{passed-length, offered-length, offered-reques
 use Rattle.calls.specs.declared.PerformAnswer.the-variants.{Done, Refused}
 use Rattle.calls.specs.Carried.{Carried, carriedBy}
 
--- the next summary can be hashed
+-- the next summary takes as many bytes as a hash
+pub length-next : (su request next : List ℕ) → next ≡ nextSummary su request → length next ≡ hashSize
+length-next su request next is = ap length is ∙ length-nextSummary su request
+
+-- what it is the hash of is short enough to be hashed
 pub hashable : (n v page room : ℕ) (l request su : List ℕ) (q : Request) → Offered n v page room l request q → su ≡ summary n l
     → length su + length request ≤ 65535
 hashable n v page room l request su q o is =

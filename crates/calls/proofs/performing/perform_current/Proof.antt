@@ -1,7 +1,7 @@
 -- `perform_current` meets its contract: what carrying the request out answers, and the page moved on where it was carried out.
 -- Assumes nothing.
 use Rattle.offers.proofs.Passing.{offered-length, offering}
-use Rattle.calls.proofs.CarryingOut.{hashable}
+use Rattle.calls.proofs.CarryingOut.{hashable, length-next}
 use Rattle.calls.proofs.Answering.{moved-on, performed-refused, performed-done}
 use borrow.Author.Needs.{needs}
 use Rattle.calls.proofs.performing.perform_current.Statement.{statement}
@@ -16,7 +16,7 @@ next-summary-requires c κs = let o = c .before .before .before .before .before 
 carry-requires : tie.Need-carry-requires
 carry-requires c κs =
     let o = c .before .before .before .before .before .before .before .before .before in
-    (o .pre .0, (offering _ _ _ _ _ _ _ (o .pre .1 .0), search needs))
+    (o .pre .0, (offering _ _ _ _ _ _ _ (o .pre .1 .0), length-next _ _ _ (c .before .before .next-summary .ensures)))
 
 returns : tie.Need-returns
 returns c =

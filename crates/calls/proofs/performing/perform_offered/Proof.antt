@@ -1,7 +1,8 @@
 -- `perform_offered` meets its contract: test 7 under the page's key, then test 8, then what is answered to a current record.
 -- Assumes nothing.
 use Rattle.offers.proofs.Passing.{offered-length, bound}
-use Rattle.calls.proofs.ValidAndCurrent.{key-short, key-prepared, forged, stale, current}
+use Rattle.offers.proofs.Authenticators.{key-short}
+use Rattle.calls.proofs.ValidAndCurrent.{key-prepared, forged, stale, current}
 use borrow.Author.Needs.{needs}
 use Rattle.calls.proofs.performing.perform_offered.Statement.{statement}
 use Rattle.calls.proofs.performing.perform_offered.Tie as tie

@@ -1,9 +1,10 @@
 -- `repeat_offered` meets its contract: test 7 under the page's key, then test 8 by the summary behind the record's, then what
 -- carrying the request out answers. Assumes nothing.
 use Rattle.offers.proofs.Passing.{offered-length, offering, bound}
-use Rattle.calls.proofs.CarryingOut.{hashable}
+use Rattle.offers.proofs.Authenticators.{key-short}
+use Rattle.calls.proofs.CarryingOut.{hashable, length-next}
 use Rattle.calls.proofs.Answering.{moved-on, repeated-current}
-use Rattle.calls.proofs.ValidAndCurrent.{key-short, key-prepared, forged, stale, current}
+use Rattle.calls.proofs.ValidAndCurrent.{key-prepared, forged, stale, current}
 use borrow.Author.Needs.{needs}
 use Rattle.calls.proofs.repeating.repeat_offered.Statement.{statement}
 use Rattle.calls.proofs.repeating.repeat_offered.Tie as tie
@@ -37,8 +38,9 @@ returns-2 c =
 
 carry-requires : tie.Need-carry-requires
 carry-requires c κs =
-    let p = c .before .before .before .before .before .before .before .before .before .before .before .before .before .before .before .before .pre in
-    (p .0, (offering _ _ _ _ _ _ _ (p .1), search needs))
+    let h = c .before .before .before .before .before in
+    let p = h .before .before .before .before .before .before .before .before .before .before .before .pre in
+    (p .0, (offering _ _ _ _ _ _ _ (p .1), length-next _ _ _ (h .next-summary .ensures)))
 
 returns-3 : tie.Need-returns-3
 returns-3 c =

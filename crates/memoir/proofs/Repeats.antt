@@ -1,0 +1,89 @@
+-- Repeat is the report's LL1RepeatOperation. The idea: as for perform; the next summary is the one that the page holds.
+-- Assumes nothing.
+use mathlib.Core.Path.{_≡_, refl, sym, ap, _∙_}
+use Prim.Native.Nat.{ℕ}
+use mathlib.Core.List.{List, [], _∷_, List·Memᴰ}
+use Rattle.numbers.proofs.Comparison.{same-iff}
+use Rattle.bindings.specs.Hashed.{authenticatorOf}
+use Rattle.records.specs.Page.{pageSummary, pageKey}
+use Rattle.records.specs.Record.{authenticator}
+use Rattle.answers.specs.Answers.{Performed, repeated}
+use Rattle.answers.specs.Accepting.{RepeatPassing}
+use Rattle.answers.specs.Edition.{design}
+use Rattle.answers.proofs.Tests.{offer}
+use Rattle.answers.proofs.Accepted.{repeat-passed, repeat-is}
+use Rattle.answers.proofs.ReadsBack.{reads-back}
+use Rattle.answers.proofs.Keys.{key-stays}
+use Rattle.memoir.specs.Storage.{LL1Vars}
+use Rattle.memoir.specs.RepeatOperation.{newAuthenticator, Enabled, LL1RepeatOperation}
+use Rattle.memoir.specs.Instance.{constants}
+use Rattle.memoir.specs.Actions.{trustedIn, offering, written, accepted, Possible}
+use Rattle.memoir.specs.Theorems.{RepeatIsAction}
+use Rattle.memoir.proofs.Variables.{storage-is, vars-are}
+use Rattle.memoir.proofs.Answers.{offered-binding, new-state, new-summary, new-authenticator, new-output}
+
+module _ (n v : ℕ) (page l request answer : List ℕ) (vars : LL1Vars) where
+  -- accepted, so enabled
+  enabled : repeated (design n v) page l request answer .number ≡ 0 → Enabled (constants n) (offering n page l vars) request
+  enabled e =
+      let (state, p) = repeat-passed (design n v) page l request answer e in
+      record {
+        valid = same-iff _ _ .1 (p .authentic ∙ ap (λ (b : List ℕ). authenticatorOf (pageKey page) [] b) (sym (offered-binding n v l)));
+        current = sym (p .current);
+      }
+
+  -- enabled, so accepted, where the tests 1 to 6 and the charge rules let it pass
+  accepts : Possible n v page l request answer → Enabled (constants n) (offering n page l vars) request → repeated (design n v) page l request answer .number ≡ 0
+  accepts can enabled =
+      let o = offer (design n v) page l request answer (can .passed) in
+      let passing : RepeatPassing (design n v) page l request answer (can .state) =
+      record {
+        right = o .right;
+        room = o .room;
+        tests = o .tests;
+        formed = o .formed;
+        authentic = same-iff _ _ .0 (enabled .valid) ∙ ap (λ (b : List ℕ). authenticatorOf (pageKey page) [] b) (offered-binding n v l);
+        current = sym (enabled .current);
+        carries = can .carries;
+      } in
+      ap (λ (p : Performed). p .number) (repeat-is (design n v) page l request answer (can .state) passing)
+
+  -- accepted, so the action
+  acts : List·Memᴰ request (vars .LL1AvailableInputs) → repeated (design n v) page l request answer .number ≡ 0
+      → LL1RepeatOperation (constants n) (offering n page l vars) (accepted n (repeated (design n v) page l request answer) vars) request
+  acts available e =
+      let p = repeated (design n v) page l request answer in
+      let a = reads-back n v .repeats page l request answer e in
+      let next = repeat-passed (design n v) page l request answer e .1 .current in
+      let stays = key-stays n v .repeats page l request answer in
+      let tag : authenticator n (written n (p .answer)) ≡ newAuthenticator (constants n) (offering n page l vars) request =
+      new-authenticator n v page l request answer p a (pageSummary page) next (ap pageKey stays) in
+      record {
+        available = available;
+        enabled = enabled e;
+        ram = storage-is (new-state n v page l request answer p a) (new-summary n v page l request answer p a ∙ next) tag;
+        outputs = ap (λ (o : ℕ). o ∷ vars .LL1ObservedOutputs) (new-output n v page l request answer p a);
+        nvram = ap trustedIn stays;
+        disk = refl;
+        inputs = refl;
+        authenticators = ap (λ (m : List ℕ). m ∷ vars .LL1ObservedAuthenticators) tag;
+      }
+
+  -- the action, so the accepted call
+  only : Possible n v page l request answer → (after : LL1Vars) → LL1RepeatOperation (constants n) (offering n page l vars) after request
+      → (repeated (design n v) page l request answer .number ≡ 0) × (after ≡ accepted n (repeated (design n v) page l request answer) vars)
+  only can after action =
+      let e = accepts can (action .enabled) in
+      let own = acts (action .available) e in (
+        e,
+        vars-are after (accepted n (repeated (design n v) page l request answer) vars) (action .inputs ∙ sym (own .inputs)) (action .outputs ∙ sym (own .outputs))
+            (action .authenticators ∙ sym (own .authenticators)) (action .disk ∙ sym (own .disk)) (action .ram ∙ sym (own .ram)) (action .nvram ∙ sym (own .nvram)),
+      )
+
+pub repeat-is-action : (n v : ℕ) → RepeatIsAction n v
+repeat-is-action n v page l request answer can vars available =
+    record {
+      enabled = (enabled n v page l request answer vars, accepts n v page l request answer vars can);
+      acts = acts n v page l request answer vars available;
+      only = only n v page l request answer vars can;
+    }

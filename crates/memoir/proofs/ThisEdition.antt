@@ -1,0 +1,20 @@
+-- The perform and the repeat that ship are the report's two actions. Assumes nothing.
+use Rattle.racks.specs.Edition.{racks}
+use Rattle.records.specs.Edition.{recordVersion}
+use Rattle.memoir.specs.Theorems.{PerformIsAction, RepeatIsAction, AcceptedArePossible, OtherwiseStays}
+use Rattle.memoir.proofs.Performs.{perform-is-action}
+use Rattle.memoir.proofs.Repeats.{repeat-is-action}
+use Rattle.memoir.proofs.Possibles.{accepted-are-possible}
+use Rattle.memoir.proofs.Stays.{otherwise-stays}
+
+pub this-perform-is-action : PerformIsAction racks recordVersion
+this-perform-is-action = perform-is-action racks recordVersion
+
+pub this-repeat-is-action : RepeatIsAction racks recordVersion
+this-repeat-is-action = repeat-is-action racks recordVersion
+
+pub this-accepted-are-possible : AcceptedArePossible racks recordVersion
+this-accepted-are-possible = accepted-are-possible racks recordVersion
+
+pub this-otherwise-stays : OtherwiseStays racks recordVersion
+this-otherwise-stays = otherwise-stays racks recordVersion

@@ -1,18 +1,18 @@
 -- A record reads back as what was written, and is what its fields make, whatever the number of racks and the version.
 -- Assumes nothing.
-use mathlib.Core.Path.{_≡_, refl, sym, ap, ap₂, _∙_}
+use mathlib.Core.Path.{_≡_, sym, ap, ap₂, _∙_}
 use mathlib.Core.Bool.{true, and-eq-true-iff}
-use Prim.Native.Nat.{ℕ, _+_, _-_, _^_, _≤_, _<_}
+use Prim.Native.Nat.{ℕ, _+_, _-_, _^_, _<_}
 use native.Mathlib.Omega.{arith}
 use mathlib.Core.List.{List, [], _∷_, _++_, map, append-assoc, append-nil}
-use lib.ListN.{length, getD, length-append}
+use lib.ListN.{length, getD}
 use lib.Dec.{eqb}
 use borrow.Author.Tests.{eqb-true, eq-eqb}
 use Rattle.numbers.specs.Numbers.{be, bytesOf, Bytes}
-use Rattle.numbers.specs.Parts.{over, size, join}
+use Rattle.numbers.specs.Parts.{size, join}
 use Rattle.numbers.proofs.Numbers.{length-bytesOf, be-bytesOf}
 use Rattle.numbers.proofs.Bytes.{bytes-part}
-use Rattle.numbers.proofs.Parts.{length-part, over-over}
+use Rattle.numbers.proofs.Parts.{length-part}
 use Rattle.numbers.proofs.Forms.{part-whole}
 use Rattle.numbers.proofs.Layouts.{length-join, join-cutAt}
 use Rattle.records.specs.Page.{hashSize}
@@ -84,19 +84,3 @@ record-again n v l bytes size version =
     ap₂ (λ (x y : List ℕ). join (x ∷ y ∷ stateBytes n l ∷ summary n l ∷ authenticator n l ∷ [])) (sym first) (sym second)
     ∙ join-cutAt 0 (recordWidths n) l
     ∙ part-whole (recordSize n) l long
-
--- ---- four pieces laid end to end
-pub laid-4 : (a b c d x₀ x₁ x₂ x₃ x₄ : List ℕ) → length a + length b + length c + length d ≤ length x₀
-    → x₁ ≡ over 0 a x₀ → x₂ ≡ over (length a) b x₁ → x₃ ≡ over (length a + length b) c x₂ → x₄ ≡ over (length a + length b + length c) d x₃
-    → x₄ ≡ over 0 (a ++ b ++ c ++ d) x₀
-laid-4 a b c d x₀ x₁ x₂ x₃ x₄ fits p q r s =
-    let second : x₂ ≡ over 0 (a ++ b) x₀ = q ∙ laid a b x₀ x₁ (length a) refl (omega arith) p in
-    let two : length a + length b ≡ length (a ++ b) = simp length-append in
-    let third : x₃ ≡ over 0 (a ++ b ++ c) x₀ = r ∙ laid (a ++ b) c x₀ x₂ (length a + length b) two (omega (arith, two)) second in
-    let three : length a + length b + length c ≡ length (a ++ b ++ c) = simp length-append in
-    s ∙ laid (a ++ b ++ c) d x₀ x₃ (length a + length b + length c) three (omega (arith, three)) third
-  where
-    laid : (v u x y : List ℕ) (n : ℕ) → n ≡ length v → length v ≤ length x → y ≡ over 0 v x → over n u y ≡ over 0 (v ++ u) x
-    laid v u x y n long room is =
-        let at : n ≡ 0 + length v = omega arith in
-        ap₂ (λ (m : ℕ) (z : List ℕ). over m u z) at is ∙ over-over 0 (length v) v x refl (omega arith) u

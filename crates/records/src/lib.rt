@@ -1,15 +1,11 @@
-// The page and the record in lent bytes: their parts where they lie, the tests 3, 4 and 5 of a record, and a
-// record written from its parts. The number of racks and the header are parameters: a form of record is
-// these two.
+// The page and the record in lent bytes: their parts where they lie, and the tests 3, 4 and 5 of a record. The
+// number of racks and the header are parameters: a form of record is these two.
 mod edition;
 mod pages;
 mod parts;
 mod testing;
-mod writing;
 
 pub use edition::first_state;
-pub use edition::test_book;
-pub use edition::write_book;
 pub use pages::page_key;
 pub use pages::page_summary;
 pub use parts::authenticator_part;
@@ -17,7 +13,6 @@ pub use parts::state_part;
 pub use parts::summary_part;
 use refusals::Refusal;
 pub use testing::test_record;
-pub use writing::write_record;
 
 // How many bytes a hash takes: a summary, an authenticator, a key.
 pub const HASH_SIZE: usize = 32;

@@ -1,7 +1,6 @@
 // What is hashed, document 01: the state hash, the next summary and the binding. Each message is hashed in
 // pieces where they lie, behind a byte that says its kind. The authenticator is the MAC of
 // the binding.
-use hmac::Prepared;
 use hmac::mac;
 use sha256::sha256;
 ghost use mathlib.Core.Path.{_≡_};
@@ -37,13 +36,27 @@ pub fn binding(summary: &[u8], hash: &[u8]) -> [u8; 32]
     sha256(&tag, summary, hash)
 }
 
-// The authenticator of a state bound to a summary, under a key that has been worked out.
-pub fn authenticator_of(key: Prepared, summary: &[u8], state: &[u8]) -> [u8; 32]
+// The binding of a state to a summary, from the state itself. Its hash is gone from the stack when this returns.
+fn bound_to(summary: &[u8], state: &[u8]) -> [u8; 32]
     requires { ⌜ length (now summary) ≡ 32 ⌝ }
     requires { ⌜ length (now state) ≤ 65535 ⌝ }
-    ensures { λ r. ⌜ r ≡ macOf key (bindingOf (now (summary .entry)) (now (state .entry))) ⌝ }
+    ensures { λ r. ⌜ r ≡ bindingOf (now (summary .entry)) (now (state .entry)) ⌝ }
 {
     let hash = state_hash(state);
-    let bound = binding(summary, &hash);
-    mac(key, &summary[..0], &bound)
+    binding(summary, &hash)
+}
+
+// The authenticator of a state bound to a summary, under a key that has been worked out, of which the halves are lent.
+pub fn authenticator_of(
+    inner: &[u32; 8],
+    outer: &[u32; 8],
+    summary: &[u8],
+    state: &[u8],
+) -> [u8; 32]
+    requires { ⌜ length (now summary) ≡ 32 ⌝ }
+    requires { ⌜ length (now state) ≤ 65535 ⌝ }
+    ensures { λ r. ⌜ r ≡ macOf (record { inner = now (inner .entry); outer = now (outer .entry) }) (bindingOf (now (summary .entry)) (now (state .entry))) ⌝ }
+{
+    let bound = bound_to(summary, state);
+    mac(inner, outer, &summary[..0], &bound)
 }

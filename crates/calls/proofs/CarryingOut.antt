@@ -14,7 +14,8 @@ use Rattle.racks.specs.Racks.{rackAt}
 use Rattle.racks.specs.Layout.{rackSize, stateOf}
 use Rattle.requests.specs.declared.Request.{Request}
 use Rattle.requests.specs.Requests.{rackOfRequest}
-use Rattle.requests.specs.Range.{Named}
+use Rattle.requests.specs.Layout.{requestSize}
+use Rattle.requests.specs.Range.{Named, InRange}
 use Rattle.rules.specs.declared.Verdict.{Verdict}
 use Rattle.rules.specs.declared.Verdict.the-variants.{Free, Barred}
 use Rattle.rules.specs.Rules.{verdict, carryOut}
@@ -23,49 +24,36 @@ use Rattle.records.specs.Page.{hashSize}
 use Rattle.records.specs.Record.{stateSize, recordSize, stateBytes, summary, recordOf}
 use Rattle.hmac.specs.declared.Prepared.{Prepared}
 use Rattle.hmac.specs.Preparation.{macOf}
-use Rattle.bindings.specs.Hashed.{nextSummary, bindingOf}
-use Rattle.bindings.proofs.Hashes.{length-nextSummary}
+use Rattle.bindings.specs.Hashed.{bindingOf}
 use Rattle.next_records.specs.Next.{nextBytes}
 use Rattle.next_records.proofs.InRecord.{state-in}
-use Rattle.offers.specs.Offers.{Offered, Offering}
-use Rattle.offers.proofs.Passing.{passed-length, offered-length, offered-request}
 use Rattle.calls.specs.declared.PerformAnswer.the-variants.{Done, Refused}
 use Rattle.calls.specs.Carried.{Carried, carriedBy}
 
--- the next summary takes as many bytes as a hash
-pub length-next : (su request next : List ℕ) → next ≡ nextSummary su request → length next ≡ hashSize
-length-next su request next is = ap length is ∙ length-nextSummary su request
-
--- what it is the hash of is short enough to be hashed
-pub hashable : (n v page room : ℕ) (l request su : List ℕ) (q : Request) → Offered n v page room l request q → su ≡ summary n l
-    → length su + length request ≤ 65535
-hashable n v page room l request su q o is =
-    let long = offered-length n v page room l request q o in
-    let ten = offered-request n v page room l request q o in
+-- the next summary can be hashed
+pub hashable : (n : ℕ) (l request su : List ℕ) → length l ≡ recordSize n → length request ≡ requestSize → su ≡ summary n l → length su + length request ≤ 65535
+hashable n l request su long ten is =
     let wide : length su ≡ hashSize = ap length is ∙ length-part (3 + stateSize n) hashSize l (omega arith) in
     omega arith
 
-module _ (n v room : ℕ) (l : List ℕ) (q : Request) (o : Offering n v room l q) where
-  long : length l ≡ recordSize n
-  long = passed-length n v l (o .passed)
-
+module _ (n : ℕ) (l : List ℕ) (q : Request) (long : length l ≡ recordSize n) where
   wide : length (stateBytes n l) ≡ stateSize n
-  wide = let e = long in length-part 3 (stateSize n) l (omega arith)
+  wide = length-part 3 (stateSize n) l (omega arith)
 
   count : racksIn (stateBytes n l) ≡ n
   count = ap (λ (m : ℕ). m / rackSize) wide ∙ mul-div-cancel n (lit< tt)
 
   -- the request's racks are among those in the bytes
-  pub named : (s : List ℕ) → s ≡ stateBytes n l → Named (racksIn s) q
-  named s is = rw (is, count) (o .range .named)
+  pub named : (s : List ℕ) → s ≡ stateBytes n l → Named n q → Named (racksIn s) q
+  named s is among = rw (is, count) among
 
   -- what is judged on the bytes is judged on the record's state
   pub judged : (s : List ℕ) (w : Verdict) → s ≡ stateBytes n l → w ≡ verdict (stateIn s) q → w ≡ verdict (stateOf n (stateBytes n l)) q
   judged s w is e = rw (is, state-in n l long) at e
 
   -- a request that nothing bars can be carried out
-  pub ready : verdict (stateOf n (stateBytes n l)) q ≡ Free → Ready (stateBytes n l) q
-  ready free = record { whole = rw (count, wide); range = rw count (o .range); free = rw (state-in n l long) free }
+  pub ready : InRange n q → verdict (stateOf n (stateBytes n l)) q ≡ Free → Ready (stateBytes n l) q
+  ready range free = record { whole = rw (count, wide); range = rw count range; free = rw (state-in n l long) free }
 
 -- what is answered then, and where a charge rule bars the request
 module _ (n v : ℕ) (key : Prepared) (l : List ℕ) (q : Request) (next answer : List ℕ) {w : Verdict} (judgement : w ≡ verdict (stateOf n (stateBytes n l)) q) where

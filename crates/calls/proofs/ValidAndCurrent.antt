@@ -1,13 +1,16 @@
 -- Tests 7 and 8 of perform and of repeat, and what is answered by them, at the design of n racks and version v.
 -- The idea: what a test found is put in the place of the test. Assumes nothing.
-use mathlib.Core.Path.{_≡_}
+use mathlib.Core.Path.{_≡_, ap, _∙_}
 use mathlib.Core.Bool.{Bool, true, false, not}
-use Prim.Native.Nat.{ℕ}
+use Prim.Native.Nat.{ℕ, _≤_}
+use native.Mathlib.Omega.{arith}
 use mathlib.Core.List.{List}
+use lib.ListN.{length}
 use Rattle.numbers.specs.Comparing.{same}
+use Rattle.numbers.proofs.Parts.{length-part}
 use Rattle.numbers.proofs.Testing.{failed, passed}
 use Rattle.refusals.specs.declared.Refusal.the-variants.{Authenticator, Current}
-use Rattle.records.specs.Page.{pageSummary, pageKey}
+use Rattle.records.specs.Page.{hashSize, pageSize, pageSummary, pageKey}
 use Rattle.records.specs.Record.{stateBytes, summary, authenticator}
 use Rattle.hmac.specs.declared.Prepared.{Prepared}
 use Rattle.hmac.specs.Preparation.{preparedOf, macOf}
@@ -16,11 +19,16 @@ use Rattle.answers.specs.Hashing.{valid}
 use Rattle.answers.specs.Judging.{afterCurrent, afterEarly}
 use Rattle.answers.specs.Answers.{Performed, answeredBy}
 use Rattle.answers.specs.Edition.{servedBytes, design}
-use Rattle.offers.proofs.Authenticators.{valid-worked}
+use Rattle.offers.proofs.Authenticators.{valid-prepared}
 use Rattle.calls.specs.declared.PerformAnswer.the-variants.{Refused}
 use Rattle.calls.specs.Told.{told}
 
--- the page's key, as it lies in the page, was prepared
+-- the page's key, as it lies in the page, is short, and it was prepared
+pub key-short : (page k : List ℕ) → length page ≡ pageSize → k ≡ pageKey page → length k ≤ 64
+key-short page k size is =
+    let wide : length k ≡ hashSize = ap length is ∙ length-part hashSize hashSize page (omega arith) in
+    omega arith
+
 pub key-prepared : (page k : List ℕ) {key : Prepared} → k ≡ pageKey page → key ≡ preparedOf k → key ≡ preparedOf (pageKey page)
 key-prepared page k is prepared = rw is at prepared
 
@@ -32,7 +40,7 @@ module _ (n v : ℕ) (page l request answer after summed k : List ℕ) (key : Pr
       p ≡ answeredBy (design n v) page l request answer after (afterEarly (valid (design n v) page l) (same summed (pageSummary page)) (servedBytes n (stateBytes n l) request))
 
   seven : r ≡ valid (design n v) page l
-  seven = valid-worked n v page l k key r lies prepared tested
+  seven = tested ∙ valid-prepared n v page l key (key-prepared page k lies prepared)
 
   pub forged : not r ≡ true → Answers (told (Refused Authenticator) page answer)
   forged fails = rw (failed r (valid (design n v) page l) seven fails)

@@ -8,6 +8,7 @@ ghost use mathlib.Core.Path.{_≡_};
 ghost use mathlib.Core.List.{_++_};
 ghost use Prim.Native.Nat.{_+_, _-_, _≤_};
 ghost use lib.ListN.{length, replicate};
+ghost use Rattle.sha256.specs.Continued.{sha256After};
 ghost use Rattle.hmac.specs.Hmac.{B, ipad, opad, _⊕_, hmac};
 ghost use Rattle.hmac.specs.Preparation.{afterBlock, preparedOf, macOf};
 
@@ -33,7 +34,7 @@ fn after_pad(key: &[u8], pad: u8) -> [u32; 8]
 }
 
 // What a key of at most a block comes to.
-fn prepare_short(key: &[u8]) -> Prepared
+pub fn prepare(key: &[u8]) -> Prepared
     requires { ⌜ length (now key) ≤ B ⌝ }
     ensures { λ r. ⌜ r ≡ preparedOf (now (key .entry)) ⌝ }
 {
@@ -42,28 +43,21 @@ fn prepare_short(key: &[u8]) -> Prepared
     Prepared { inner, outer }
 }
 
-// What a key comes to: one that is longer than a block is hashed first.
-pub fn prepare(key: &[u8]) -> Prepared
-    requires { ⌜ length (now key) ≤ 256 ⌝ }
-    ensures { λ r. ⌜ r ≡ preparedOf (now (key .entry)) ⌝ }
+// The hash of a and b end to end behind a pad's block, from the hash value after that.
+fn behind(h: &[u32; 8], a: &[u8], b: &[u8]) -> [u8; 32]
+    requires { ⌜ length (now a) + length (now b) ≤ 65472 ⌝ }
+    ensures { λ r. ⌜ r ≡ sha256After (now (h .entry)) 1 (now (a .entry) ++ now (b .entry)) ⌝ }
 {
-    if key.len() <= 64 {
-        prepare_short(key)
-    } else {
-        let hashed = sha256(key, &key[..0], &key[..0]);
-        prepare_short(&hashed)
-    }
+    sha256_after(*h, 1, a, b, &b[..0])
 }
 
-// The MAC of a and b end to end, under a key that has been worked out.
-pub fn mac(k: Prepared, a: &[u8], b: &[u8]) -> [u8; 32]
+// The MAC of a and b end to end, under a key that has been worked out. Its halves are lent, so that no call copies them.
+pub fn mac(inner: &[u32; 8], outer: &[u32; 8], a: &[u8], b: &[u8]) -> [u8; 32]
     requires { ⌜ length (now a) + length (now b) ≤ 65472 ⌝ }
-    ensures { λ r. ⌜ r ≡ macOf k (now (a .entry) ++ now (b .entry)) ⌝ }
+    ensures { λ r. ⌜ r ≡ macOf (record { inner = now (inner .entry); outer = now (outer .entry) }) (now (a .entry) ++ now (b .entry)) ⌝ }
 {
-    let inner = k.inner;
-    let outer = k.outer;
-    let d = sha256_after(inner, 1, a, b, &b[..0]);
-    sha256_after(outer, 1, &d, &b[..0], &b[..0])
+    let d = behind(inner, a, b);
+    behind(outer, &d, &b[..0])
 }
 
 // The MAC of a and b end to end under a key of at most a block. The outer pad is worked out only when the

@@ -1,6 +1,5 @@
 // The next record, written where it goes: the state is carried on in the answer itself.
 use bindings::authenticator_of;
-use hmac::Prepared;
 use numbers::copy;
 use racks::RACK_SIZE;
 use records::HASH_SIZE;
@@ -45,7 +44,8 @@ pub fn write_next(
     record: &[u8],
     q: Request,
     next: &[u8],
-    key: Prepared,
+    inner: &[u32; 8],
+    outer: &[u32; 8],
     racks: usize,
 ) -> u32
     requires { ⌜ Described racks (now header) ⌝ }
@@ -53,14 +53,14 @@ pub fn write_next(
     requires { ⌜ length (now «record») ≡ recordSize racks ⌝ }
     requires { ⌜ length (now next) ≡ hashSize ⌝ }
     requires { ⌜ Ready (stateBytes racks (now «record»)) q ⌝ }
-    ensures { λ _. ⌜ now (answer .exit) ≡ over 0 (recordOf racks (getD (now (header .entry)) 2 0) (nextBytes racks (now («record» .entry)) q) (now (next .entry)) (macOf key (bindingOf (now (next .entry)) (nextBytes racks (now («record» .entry)) q)))) (now (answer .entry)) ⌝ }
+    ensures { λ _. ⌜ now (answer .exit) ≡ over 0 (recordOf racks (getD (now (header .entry)) 2 0) (nextBytes racks (now («record» .entry)) q) (now (next .entry)) (macOf (record { inner = now (inner .entry); outer = now (outer .entry) }) (bindingOf (now (next .entry)) (nextBytes racks (now («record» .entry)) q)))) (now (answer .entry)) ⌝ }
     ensures { λ r. ⌜ r ≡ rackAt (carryOut (stateOf racks (stateBytes racks (now («record» .entry)))) q) (rackOfRequest q) .stored ⌝ }
 {
     let state = state_part(record, racks);
     let stored = write_state(answer, header, state, q);
     let at_summary = HEADER_SIZE + racks * RACK_SIZE;
     let next_state = &answer[HEADER_SIZE..at_summary];
-    let authenticator = authenticator_of(key, next, next_state);
+    let authenticator = authenticator_of(inner, outer, next, next_state);
     copy(answer, at_summary, next);
     let at_authenticator = at_summary + HASH_SIZE;
     copy(answer, at_authenticator, &authenticator);

@@ -37,7 +37,7 @@ pub valid-worked : (n v : ℕ) (page l k : List ℕ) (key : Prepared) (r : Bool)
 valid-worked n v page l k key r is-k is-key is = is ∙ valid-prepared n v page l key (is-key ∙ ap preparedOf is-k)
 
 -- a page's key can be worked out
-pub key-short : (page k : List ℕ) → length page ≡ pageSize → k ≡ pageKey page → length k ≤ 256
+pub key-short : (page k : List ℕ) → length page ≡ pageSize → k ≡ pageKey page → length k ≤ 64
 key-short page k size is =
     let wide : length (pageKey page) ≡ 32 = length-part 32 32 page (omega arith) in
     omega (arith, ap length is)

@@ -78,11 +78,11 @@ module _ (n v : ℕ) (l : List ℕ) (rack : ℕ) where
   by-total true e = rw e refl
   by-total false e = rw e refl
 
-  pub view-over : (total : ℕ) → total ≡ totalStored (stateOf n l) → 256 ^ 4 ≤ total
+  pub view-over : (total : ℕ) → total ≡ totalStored (stateOf n l) → 0xFFFF_FFFF < total
       → toldView (RefusedView Total) ≡ viewedBy (design n v) rack (afterCurrent (shown (design n v) l rack))
   view-over total is over = sym (by-total false (le-ltb (totalStored (stateOf n l)) (256 ^ 4) (omega arith)))
 
-  pub view-seen : (total full : ℕ) (r : Rack) → total ≡ totalStored (stateOf n l) → total < 256 ^ 4 → r ≡ rackOf (part (rack * rackSize) rackSize l) → rack < n → full ≡ percent r
+  pub view-seen : (total full : ℕ) (r : Rack) → total ≡ totalStored (stateOf n l) → total ≤ 0xFFFF_FFFF → r ≡ rackOf (part (rack * rackSize) rackSize l) → rack < n → full ≡ percent r
       → toldView (Seen (r .stored) (r .capacity) full total) ≡ viewedBy (design n v) rack (afterCurrent (shown (design n v) l rack))
   view-seen total full r is fits reads inside share =
       let at : r ≡ rackAt (stateOf n l) rack = reads ∙ sym (rackAt-stateOf n l rack inside) in

@@ -43,7 +43,7 @@ fn is_current(page: &[u8], record: &[u8], header: &[u8], racks: usize) -> bool
         Tested::Refused(_) => false,
         Tested::Passed => {
             let key = prepare(page_key(page));
-            if !valid(key, record, racks) {
+            if !valid(&key.inner, &key.outer, record, racks) {
                 return false;
             }
             let own = summary_part(record, racks);

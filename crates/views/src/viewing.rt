@@ -48,7 +48,7 @@ fn view_offered(page: &[u8], record: &[u8], rack: usize, header: &[u8], racks: u
     ensures { λ r. ⌜ toldView r ≡ viewedBy (design racks (getD (now (header .entry)) 2 0)) rack (afterEarly (valid (design racks (getD (now (header .entry)) 2 0)) (now (page .entry)) (now («record» .entry))) (same (summary racks (now («record» .entry))) (pageSummary (now (page .entry)))) (shown (design racks (getD (now (header .entry)) 2 0)) (stateBytes racks (now («record» .entry))) rack)) ⌝ }
 {
     let key = prepare(page_key(page));
-    if !valid(key, record, racks) {
+    if !valid(&key.inner, &key.outer, record, racks) {
         return ViewAnswer::Refused(Refusal::Authenticator);
     }
     let own = summary_part(record, racks);

@@ -22,7 +22,7 @@ returns c =
     let s = o .args in
     let p = o .pre .1 .1 in
     record-laid (s .racks) (s .header .now) (s .«record» .now) (s .next .now) (s .answer .now) (s .q) (o .pre .0) (o .pre .1 .0) (p .0) (p .1 .0) (p .1 .1)
-    (s .key) _ _ _ _ _ _ (carried .before .before .state-part .ensures) (search needs) (carried .write-state .ensures) (bound .authenticator-of .ensures) (third .copy .ensures) (fourth .copy2 .ensures)
+    (record { inner = s .inner .now; outer = s .outer .now }) _ _ _ _ _ _ (carried .before .before .state-part .ensures) (search (needs, bound .authenticator-of .ok)) (carried .write-state .ensures) (bound .authenticator-of .ensures) (third .copy .ensures) (fourth .copy2 .ensures)
 
 pub write-next-spec : {M : Type 1} → statement M
 write-next-spec =

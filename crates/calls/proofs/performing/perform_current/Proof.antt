@@ -1,51 +1,38 @@
--- `perform_current` meets its contract: what carrying the request out answers, and the page moved on where it was carried out.
--- Assumes nothing.
-use Rattle.offers.proofs.Passing.{offered-length, offering}
-use Rattle.calls.proofs.CarryingOut.{hashable, length-next}
-use Rattle.calls.proofs.Answering.{moved-on, performed-refused, performed-done}
+-- `perform_current` meets its contract: the verdict decides, and a request that is barred leaves everything as it is. Assumes nothing.
+use mathlib.Core.Path.{refl, sym, _∙_}
+use Rattle.offers.proofs.Passing.{offered-length, offered-named}
+use Rattle.calls.proofs.CarryingOut.{barred-carried}
+use Rattle.calls.proofs.Answering.{performed-refused}
 use borrow.Author.Needs.{needs}
 use Rattle.calls.proofs.performing.perform_current.Statement.{statement}
 use Rattle.calls.proofs.performing.perform_current.Tie as tie
 
-summary-part-requires : tie.Need-summary-part-requires
-summary-part-requires c κs = let o = c .before .before .before .before .before in offered-length _ _ _ _ _ _ _ (o .pre .1 .0)
+judge-record-requires : tie.Need-judge-record-requires
+judge-record-requires c κs =
+    let o = c .before .before .before .before .before .pre .1 .0 in
+    (offered-length _ _ _ _ _ _ _ o, offered-named _ _ _ _ _ _ _ o)
 
-next-summary-requires : tie.Need-next-summary-requires
-next-summary-requires c κs = let o = c .before .before .before .before .before .before in hashable _ _ _ _ _ _ _ _ (o .pre .1 .0) (c .summary-part .ensures)
-
-carry-requires : tie.Need-carry-requires
-carry-requires c κs =
-    let o = c .before .before .before .before .before .before .before .before .before in
-    (o .pre .0, (offering _ _ _ _ _ _ _ (o .pre .1 .0), length-next _ _ _ (c .before .before .next-summary .ensures)))
+perform-free-requires : tie.Need-perform-free-requires
+perform-free-requires c κs =
+    let j = c .before .before .before .before in
+    let p = j .before .before .before .before .before .before .pre in
+    (p .0, (p .1 .0, (p .1 .1, sym (j .judge-record .ensures) ∙ c .before .before .enum-told .given .1)))
 
 returns : tie.Need-returns
 returns c =
-    let m = c .before .before .before .before .before in
-    let h = m .before .before .before in
-    let o = h .before .before .before .before .before .before .before in
-    performed-refused _ _ _ _ _ _ _ (o .pre .1 .0) _ _ (o .pre .1 .1) (moved-on _ _ _ _ _ (h .before .summary-part .ensures) (h .next-summary .ensures)) _ _ (m .carry .ensures) _ (c .before .r .given .1)
-
-returns-2 : tie.Need-returns-2
-returns-2 c =
-    let p = c .before .before in
-    let m = p .before .before .before .before .before .before .before in
-    let h = m .before .before .before in
-    let o = h .before .before .before .before .before .before .before in
-    performed-done _ _ _ _ _ _ _ (o .pre .1 .0) _ _ (o .pre .1 .1) (moved-on _ _ _ _ _ (h .before .summary-part .ensures) (h .next-summary .ensures)) _ _ (m .carry .ensures) _ _ (p .before .before .before .stored .given .1) (p .copy .ensures)
+    let j = c .before .before .before in
+    let p = j .before .before .before .before .before .before .pre .1 in
+    performed-refused _ _ _ _ _ _ _ (p .0) _ _ (p .1) refl _ _ (barred-carried _ _ _ _ _ _ _ (j .judge-record .ensures) _ (c .before .r .given .1)) _ refl
 
 pub perform-current-spec : {M : Type 1} → statement M
 perform-current-spec =
     tie.close
     (tie.spec
-    summary-part-requires
-    next-summary-requires
-    (λ c. search needs)
-    carry-requires
+    judge-record-requires
     (λ c. search needs)
     (λ c. search needs)
-    (λ c κs. search needs)
-    (λ c. search needs)
+    perform-free-requires
     returns
     (λ c. search needs)
     (λ c. search needs)
-    returns-2)
+    (λ c. search needs))

@@ -9,13 +9,13 @@ repeat-offered-requires c κs =
     let f = c .before .before in
     let o = f .before .before in
     let p = o .before .before .before .before .before .before in
-    (p .pre, offered-formed _ _ (p .args .page .now) _ _ (p .args .answer .now) _ (o .test-offer .ensures) _ (f .q .given .1))
+    (p .pre, offered-formed _ _ (p .args .page .now) _ _ (p .args .answer .now) _ (o .offer .ensures) _ (f .q .given .1))
 
 returns : tie.Need-returns
 returns c =
     let o = c .before .before .before in
     let s = o .before .before .before .before .before .before .args in
-    repeated-early _ _ (s .page .now) _ _ (s .answer .now) _ (o .test-offer .ensures) _ (c .before .r .given .1)
+    repeated-early _ _ (s .page .now) _ _ (s .answer .now) _ (o .offer .ensures) _ (c .before .r .given .1)
 
 returns-2 : tie.Need-returns-2
 returns-2 c =
@@ -23,7 +23,7 @@ returns-2 c =
     let f = m .before .before .before in
     let o = f .before .before in
     let s = o .before .before .before .before .before .before .args in
-    repeated-past _ _ (s .page .now) _ _ (s .answer .now) _ (o .test-offer .ensures) _ (f .q .given .1) (m .repeat-offered .ensures)
+    repeated-past _ _ (s .page .now) _ _ (s .answer .now) _ (o .offer .ensures) _ (f .q .given .1) (m .repeat-offered .ensures)
 
 pub repeat-spec : {M : Type 1} → statement M
 repeat-spec =

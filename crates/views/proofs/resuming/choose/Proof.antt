@@ -1,27 +1,21 @@
 -- RAM's record is looked at first, and the disk's only where it is not current. Assumes nothing.
-use lib.ListN.{getD}
-use Rattle.answers.specs.Edition.{design}
 use Rattle.views.proofs.Chosen.{chosen-ram, chosen-disk, chosen-neither}
 use borrow.Author.Needs.{needs}
 use Rattle.views.proofs.resuming.choose.Statement.{statement}
 use Rattle.views.proofs.resuming.choose.Tie as tie
 
 returns : tie.Need-returns
-returns c =
-    let s = c .before .before .before .before .before .before .args in
-    chosen-ram (design (s .racks) (getD (s .header .now) 2 0)) (s .page .now) (s .ram .now) (s .disk .now) _ (c .before .is-current .ensures) (c .if1 .taken)
+returns c = chosen-ram _ _ _ _ _ (c .before .is-current .ensures) (c .if1 .taken)
 
 returns-2 : tie.Need-returns-2
 returns-2 c =
     let o = c .before .before in
-    let s = o .before .before .before .before .before .before .args in
-    chosen-disk (design (s .racks) (getD (s .header .now) 2 0)) (s .page .now) (s .ram .now) (s .disk .now) _ (o .before .is-current .ensures) (o .if1 .left) _ (c .before .is-current2 .ensures) (c .if2 .taken)
+    chosen-disk _ _ _ _ _ (o .before .is-current .ensures) (o .if1 .left) _ (c .before .is-current2 .ensures) (c .if2 .taken)
 
 returns-3 : tie.Need-returns-3
 returns-3 c =
     let o = c .before .before in
-    let s = o .before .before .before .before .before .before .args in
-    chosen-neither (design (s .racks) (getD (s .header .now) 2 0)) (s .page .now) (s .ram .now) (s .disk .now) _ (o .before .is-current .ensures) (o .if1 .left) _ (c .before .is-current2 .ensures) (c .if2 .left)
+    chosen-neither _ _ _ _ _ (o .before .is-current .ensures) (o .if1 .left) _ (c .before .is-current2 .ensures) (c .if2 .left)
 
 pub choose-spec : {M : Type 1} → statement M
 choose-spec =

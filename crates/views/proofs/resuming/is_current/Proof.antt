@@ -1,11 +1,6 @@
 -- Tests 1, 3 to 5 and 7 in their order, and then the two summaries. Assumes nothing.
-use mathlib.Core.Path.{_≡_}
 use lib.ListN.{getD}
 use Rattle.numbers.proofs.Testing.{failed, passed}
-use Rattle.records.specs.Page.{pageSummary}
-use Rattle.records.specs.Record.{summary}
-use Rattle.answers.specs.Hashing.{valid}
-use Rattle.answers.specs.Edition.{design}
 use Rattle.offers.proofs.Authenticators.{valid-worked, key-short}
 use Rattle.views.proofs.Chosen.{not-paged, not-tested, not-valid, is-current, parts-compared, tested-ready}
 use borrow.Author.Needs.{needs}
@@ -22,31 +17,23 @@ prepare-requires c κs = key-short _ _ (c .before .before .before .before .if1 .
 
 valid-requires : tie.Need-valid-requires
 valid-requires c κs =
-    let o = c .before .before .before .before in
+    let o = c .before .before .before .before .before .before .before in
     let s = o .before .before .before .before .before in
-    tested-ready (s .args .racks) _ (s .args .header .now) (s .args .«record» .now) _ (s .pre) (o .test-record .ensures) (c .before .before .enum-told2 .given .1)
-
--- test 7, as the definitions have it
-abbrev looked : tie.After-valid → tie.After-test-record
-looked c = c .before .before .before .before .before
-
-abbrev start : tie.After-valid → tie.Start
-start c = looked c .before .before .before .before .before
-
-seven : (c : tie.After-valid) → c .valid .result ≡ valid (design (start c .args .racks) (getD (start c .args .header .now) 2 0)) (start c .args .page .now) (start c .args .«record» .now)
-seven c = valid-worked (start c .args .racks) (getD (start c .args .header .now) 2 0) (start c .args .page .now) (start c .args .«record» .now) _ _ _ (c .before .before .page-key .ensures) (c .before .prepare .ensures) (c .valid .ensures)
+    tested-ready (s .args .racks) _ (s .args .header .now) (s .args .«record» .now) _ (s .pre) (o .test-record .ensures) (c .before .before .before .before .before .enum-told2 .given .1)
 
 returns-2 : tie.Need-returns-2
 returns-2 c =
-    let o = looked (c .before) in
-    let s = start (c .before) .args in
-    not-valid (s .racks) _ (s .page .now) (s .«record» .now) (o .before .if1 .left) _ (o .test-record .ensures) (c .before .before .before .before .enum-told2 .given .1) (failed _ _ (seven (c .before)) (c .if2 .taken))
+    let k = c .before .before .before .before .before .before in
+    let o = k .before .before .before in
+    let s = o .before .before .before .before .before .args in
+    let tested = valid-worked (s .racks) (getD (s .header .now) 2 0) (s .page .now) (s .«record» .now) _ _ _ (k .page-key .ensures) (c .before .before .before .before .before .prepare .ensures) (c .before .valid .ensures) in
+    not-valid (s .racks) _ (s .page .now) (s .«record» .now) (o .before .if1 .left) _ (o .test-record .ensures) (k .before .enum-told2 .given .1) (failed _ _ tested (c .if2 .taken))
 
 summary-part-requires : tie.Need-summary-part-requires
 summary-part-requires c κs =
-    let o = looked (c .before) in
-    let s = start (c .before) in
-    tested-ready (s .args .racks) _ (s .args .header .now) (s .args .«record» .now) _ (s .pre) (o .test-record .ensures) (c .before .before .before .before .enum-told2 .given .1) .0
+    let o = c .before .before .before .before .before .before .before .before .before in
+    let s = o .before .before .before .before .before in
+    tested-ready (s .args .racks) _ (s .args .header .now) (s .args .«record» .now) _ (s .pre) (o .test-record .ensures) (c .before .before .before .before .before .before .before .enum-told2 .given .1) .0
 
 returns-3 : tie.Need-returns-3
 returns-3 c =
@@ -57,10 +44,12 @@ returns-3 c =
 returns-4 : tie.Need-returns-4
 returns-4 c =
     let w = c .before .before .before in
-    let o = looked (w .before) in
-    let s = start (w .before) .args in
-    let compared = parts-compared (summary (s .racks) (s .«record» .now)) (pageSummary (s .page .now)) (c .same .ensures) (c .before .before .summary-part .ensures) (c .before .page-summary .ensures) in
-    is-current (s .racks) _ (s .page .now) (s .«record» .now) (o .before .if1 .left) _ (o .test-record .ensures) (w .before .before .before .before .enum-told2 .given .1) (passed _ _ (seven (w .before)) (w .if2 .left)) _ compared
+    let k = w .before .before .before .before .before .before in
+    let o = k .before .before .before in
+    let s = o .before .before .before .before .before .args in
+    let tested = valid-worked (s .racks) (getD (s .header .now) 2 0) (s .page .now) (s .«record» .now) _ _ _ (k .page-key .ensures) (w .before .before .before .before .before .prepare .ensures) (w .before .valid .ensures) in
+    let compared = parts-compared _ _ (c .same .ensures) (c .before .before .summary-part .ensures) (c .before .page-summary .ensures) in
+    is-current (s .racks) _ (s .page .now) (s .«record» .now) (o .before .if1 .left) _ (o .test-record .ensures) (k .before .enum-told2 .given .1) (passed _ _ tested (w .if2 .left)) _ compared
 
 pub is-current-spec : {M : Type 1} → statement M
 is-current-spec =

@@ -1,5 +1,4 @@
 -- The total is tested, and the rack is read where it lies. Assumes nothing.
-use native.Mathlib.Omega.{arith}
 use Rattle.views.proofs.Shown.{view-over, view-seen, seen-good}
 use borrow.Author.Needs.{needs}
 use Rattle.views.proofs.viewing.figures.Statement.{statement}
@@ -8,7 +7,7 @@ use Rattle.views.proofs.viewing.figures.Tie as tie
 returns : tie.Need-returns
 returns c =
     let s = c .before .before .before .args in
-    view-over _ 0 (s .state .now) (s .rack) (c .before .total-stored .result) (c .before .total-stored .ensures) (omega (arith, c .if1 .taken))
+    view-over _ 0 (s .state .now) (s .rack) _ (c .before .total-stored .ensures) (c .if1 .taken)
 
 percent-requires : tie.Need-percent-requires
 percent-requires c κs =
@@ -19,7 +18,7 @@ returns-2 : tie.Need-returns-2
 returns-2 c =
     let o = c .before .before in
     let s = o .before .before .before in
-    view-seen _ 0 (s .args .state .now) (s .args .rack) (o .before .total-stored .result) _ _ (o .before .total-stored .ensures) (omega (arith, o .if1 .left)) (c .before .read-rack .ensures) (s .pre .1 .1) (c .percent .ensures)
+    view-seen _ 0 (s .args .state .now) (s .args .rack) _ _ _ (o .before .total-stored .ensures) (o .if1 .left) (c .before .read-rack .ensures) (s .pre .1 .1) (c .percent .ensures)
 
 pub figures-spec : {M : Type 1} → statement M
 figures-spec =

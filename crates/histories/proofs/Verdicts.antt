@@ -1,0 +1,179 @@
+-- What a verdict says of the tests behind it. The idea: a verdict is taken apart by its tests once, and all else asks only whether the
+-- record came past test 8. Assumes nothing.
+use mathlib.Core.Path.{_≡_, refl}
+use mathlib.Core.Bool.{Bool, true, false, cond, false≢true}
+use Prim.Native.Nat.{ℕ, _^_, _<_}
+use native.Mathlib.Omega.{arith}
+use mathlib.Core.List.{List}
+use lib.Dec.{ltb}
+use Rattle.numbers.specs.Comparing.{same}
+use Rattle.numbers.proofs.Comparison.{same-iff}
+use Rattle.refusals.specs.declared.Refusal.{Refusal}
+use Rattle.refusals.specs.declared.Refusal.the-variants.{Page, Answer, Record, Version, State, Request, Authenticator, Current, Capacity, Stored, Limit, Total, Fresh}
+use Rattle.refusals.specs.Numbers.{numberOf}
+use Rattle.records.specs.declared.Tested.{Tested}
+use Rattle.records.specs.declared.Tested.the-variants.{Passed, Refused}
+use Rattle.answers.specs.Design.{Design, Served}
+use Rattle.answers.specs.Hashing.{nextSummary, valid}
+use Rattle.answers.specs.Judging.{unless, andThen, Verdict, early, forged, stale, barred, good, judged, offered, looked, shown, performVerdict, repeatVerdict, viewVerdict, resumeVerdict}
+use Rattle.answers.specs.Answers.{viewedBy, viewed, Resumed, isGood, resumedBy, resumed}
+
+-- ---- tests
+
+-- both of two tests passed
+both : (a b : Tested) → andThen a b ≡ Passed → (a ≡ Passed) × (b ≡ Passed)
+both Passed b e = (refl, e)
+both (Refused r) b e = let z : _≡_ {A = ℕ} 0 1 = cc in absurd (omega arith)
+
+-- ---- verdicts
+
+-- past test 8, refused behind it or not
+abbrev pub past : Verdict → Bool
+past (early r) = false
+past forged = false
+past stale = false
+past (barred r) = true
+past (good state) = true
+
+-- the tests before 7, test 7 and test 8 passed
+pub record Past (t : Tested) (valid current : Bool) : Type 0 where
+  pub tests : t ≡ Passed
+  pub seven : valid ≡ true
+  pub eight : current ≡ true
+
+pub past-judged : (t : Tested) (valid current : Bool) (s : Served) → past (judged t valid current s) ≡ true → Past t valid current
+past-judged (Refused r) v c s e = absurd (false≢true e)
+past-judged Passed false c s e = absurd (false≢true e)
+past-judged Passed true false s e = absurd (false≢true e)
+past-judged Passed true true s e = record { tests = refl; seven = refl; eight = refl }
+
+-- a good verdict is past test 8
+pub past-good : (v : Verdict) (state : List ℕ) → v ≡ good state → past v ≡ true
+past-good v state e = rw e refl
+
+-- a good verdict has the state that the service gives
+pub good-judged : (t : Tested) (valid current : Bool) (s : Served) (state : List ℕ) → judged t valid current s ≡ good state → s ≡ Served.carried state
+good-judged (Refused r) v c s state e = let z : _≡_ {A = ℕ} 0 1 = cc in absurd (omega arith)
+good-judged Passed false c s state e = let z : _≡_ {A = ℕ} 0 1 = cc in absurd (omega arith)
+good-judged Passed true false s state e = let z : _≡_ {A = ℕ} 0 1 = cc in absurd (omega arith)
+good-judged Passed true true (Served.carried x) state e = cc
+good-judged Passed true true (Served.barred r) state e = let z : _≡_ {A = ℕ} 0 1 = cc in absurd (omega arith)
+
+-- a record that is not current is not good, whatever else is found
+pub stale-judged : (t : Tested) (valid : Bool) (s : Served) → isGood (judged t valid false s) ≡ false
+stale-judged (Refused r) v s = refl
+stale-judged Passed false s = refl
+stale-judged Passed true s = refl
+
+-- ---- the four calls that are offered a record
+
+pub perform-past : (D : Design) (page l request answer : List ℕ) → past (performVerdict D page l request answer) ≡ true
+    → Past (offered D page l request answer) (valid D page l) (same (D .summary l) (D .pageSummary page))
+unfolding performVerdict
+perform-past D page l request answer e = past-judged _ _ _ (D .served (D .stateBytes l) request) e
+
+pub repeat-past : (D : Design) (page l request answer : List ℕ) → past (repeatVerdict D page l request answer) ≡ true
+    → Past (offered D page l request answer) (valid D page l) (same (nextSummary D (D .summary l) request) (D .pageSummary page))
+unfolding repeatVerdict
+repeat-past D page l request answer e = past-judged _ _ _ (D .served (D .stateBytes l) request) e
+
+pub view-past : (D : Design) (page l : List ℕ) (rack : ℕ) → past (viewVerdict D page l rack) ≡ true
+    → (D .tested l ≡ Passed) × (D .summary l ≡ D .pageSummary page)
+unfolding viewVerdict
+view-past D page l rack e =
+    let p : Past (looked D page l rack) (valid D page l) (same (D .summary l) (D .pageSummary page)) = past-judged _ _ _ (shown D (D .stateBytes l) rack) e in
+    (both _ _ (both (unless (D .rightPage page) Page) _ (p .tests) .1) .0, same-iff _ _ .0 (p .eight))
+
+pub resume-past : (D : Design) (page l : List ℕ) → past (resumeVerdict D page l) ≡ true
+    → (D .tested l ≡ Passed) × (D .summary l ≡ D .pageSummary page)
+unfolding resumeVerdict
+resume-past D page l e =
+    let p = past-judged (andThen (unless (D .rightPage page) Page) (D .tested l)) (valid D page l) (same (D .summary l) (D .pageSummary page)) (Served.carried (D .stateBytes l)) e in
+    (both (unless (D .rightPage page) Page) (D .tested l) (p .tests) .1, same-iff _ _ .0 (p .eight))
+
+-- accepted: the state that the service gives
+pub perform-good : (D : Design) (page l request answer state : List ℕ) → performVerdict D page l request answer ≡ good state
+    → D .served (D .stateBytes l) request ≡ Served.carried state
+unfolding performVerdict
+perform-good D page l request answer state e =
+    good-judged (offered D page l request answer) (valid D page l) (same (D .summary l) (D .pageSummary page)) _ state e
+
+pub repeat-good : (D : Design) (page l request answer state : List ℕ) → repeatVerdict D page l request answer ≡ good state
+    → D .served (D .stateBytes l) request ≡ Served.carried state
+unfolding repeatVerdict
+repeat-good D page l request answer state e =
+    good-judged (offered D page l request answer) (valid D page l) (same (nextSummary D (D .summary l) request) (D .pageSummary page)) _ state e
+
+-- view shows the record's own state
+shown-state : (D : Design) (state : List ℕ) (rack : ℕ) (fits : Bool) (x : List ℕ)
+    → cond fits (Served.carried state) (Served.barred Total) ≡ Served.carried x → x ≡ state
+shown-state D state rack true x e = cc
+shown-state D state rack false x e = let z : _≡_ {A = ℕ} 0 1 = cc in absurd (omega arith)
+
+view-good : (D : Design) (page l : List ℕ) (rack : ℕ) (state : List ℕ) → viewVerdict D page l rack ≡ good state → state ≡ D .stateBytes l
+unfolding viewVerdict
+view-good D page l rack state e =
+    shown-state D (D .stateBytes l) rack (ltb (D .figures (D .stateBytes l) rack .total) (256 ^ 4)) state
+    (good-judged (looked D page l rack) (valid D page l) (same (D .summary l) (D .pageSummary page)) (shown D (D .stateBytes l) rack) state e)
+
+-- ---- numbers
+
+-- no refusal has the number 0
+pub some-number : (r : Refusal) → 0 < numberOf r
+some-number Page = omega arith
+some-number Answer = omega arith
+some-number Record = omega arith
+some-number Version = omega arith
+some-number State = omega arith
+some-number Request = omega arith
+some-number Authenticator = omega arith
+some-number Current = omega arith
+some-number Capacity = omega arith
+some-number Stored = omega arith
+some-number Limit = omega arith
+some-number Total = omega arith
+some-number Fresh = omega arith
+
+-- a view with the number 0 is of a record past test 8, and shows the figures of the record's own state
+viewed-good : (D : Design) (rack : ℕ) (own : List ℕ) (v : Verdict) → ((state : List ℕ) → v ≡ good state → state ≡ own) → viewedBy D rack v .number ≡ 0
+    → (past v ≡ true) × (viewedBy D rack v .figures ≡ D .figures own rack)
+viewed-good D rack own (early r) is e = absurd (omega (arith, some-number r))
+viewed-good D rack own forged is e = absurd (omega arith)
+viewed-good D rack own stale is e = absurd (omega arith)
+viewed-good D rack own (barred r) is e = absurd (omega (arith, some-number r))
+viewed-good D rack own (good state) is e = (refl, rw (is state refl) refl)
+
+pub view-accepted : (D : Design) (page l : List ℕ) (rack : ℕ) → viewed D page l rack .number ≡ 0
+    → (past (viewVerdict D page l rack) ≡ true) × (viewed D page l rack .figures ≡ D .figures (D .stateBytes l) rack)
+unfolding viewed
+view-accepted D page l rack e = viewed-good D rack (D .stateBytes l) (viewVerdict D page l rack) (view-good D page l rack) e
+
+-- a record that resume finds good is past test 8
+pub good-past : (v : Verdict) → isGood v ≡ true → past v ≡ true
+good-past (early r) e = absurd (false≢true e)
+good-past forged e = absurd (false≢true e)
+good-past stale e = absurd (false≢true e)
+good-past (barred r) e = absurd (false≢true e)
+good-past (good state) e = refl
+
+-- what resume hands back is good, and the disk one only where RAM's is not
+from-ram : (r d : Bool) → resumedBy r d ≡ Resumed.ram → r ≡ true
+from-ram true d e = refl
+from-ram false true e = let z : _≡_ {A = ℕ} 0 1 = cc in absurd (omega arith)
+from-ram false false e = let z : _≡_ {A = ℕ} 0 1 = cc in absurd (omega arith)
+
+from-disk : (r d : Bool) → resumedBy r d ≡ Resumed.disk → (r ≡ false) × (d ≡ true)
+from-disk true d e = let z : _≡_ {A = ℕ} 0 1 = cc in absurd (omega arith)
+from-disk false true e = (refl, refl)
+from-disk false false e = let z : _≡_ {A = ℕ} 0 1 = cc in absurd (omega arith)
+
+pub ram-good : (D : Design) (page inRam onDisk : List ℕ) → resumed D page inRam onDisk ≡ Resumed.ram → past (resumeVerdict D page inRam) ≡ true
+unfolding resumed
+ram-good D page inRam onDisk e = good-past (resumeVerdict D page inRam) (from-ram _ (isGood (resumeVerdict D page onDisk)) e)
+
+pub disk-good : (D : Design) (page inRam onDisk : List ℕ) → resumed D page inRam onDisk ≡ Resumed.disk
+    → (isGood (resumeVerdict D page inRam) ≡ false) × (past (resumeVerdict D page onDisk) ≡ true)
+unfolding resumed
+disk-good D page inRam onDisk e =
+    let d = from-disk (isGood (resumeVerdict D page inRam)) (isGood (resumeVerdict D page onDisk)) e in
+    (d .0, good-past (resumeVerdict D page onDisk) (d .1))

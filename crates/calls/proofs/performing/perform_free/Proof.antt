@@ -1,5 +1,7 @@
 -- `perform_free` meets its contract: the next record is written, and the page is moved on. Assumes nothing.
-use mathlib.Core.Path.{refl}
+use mathlib.Core.Path.{refl, ap, _∙_}
+use lib.ListN.{length}
+use Rattle.bindings.proofs.Hashes.{length-nextSummary}
 use Rattle.offers.proofs.Passing.{offered-length, offered-request, offered-range}
 use Rattle.calls.proofs.CarryingOut.{hashable, ready, free-carried}
 use Rattle.calls.proofs.Answering.{moved-on, performed-done}
@@ -21,7 +23,7 @@ write-next-requires c κs =
     let p = c .before .before .before .before .before .before .before .before .before .pre in
     let o = p .1 .0 in
     let long = offered-length _ _ _ _ _ _ _ o in
-    (p .0, (o .answer, (long, (search needs, ready _ _ _ long (offered-range _ _ _ _ _ _ _ o) (p .1 .1 .1)))))
+    (p .0, (o .answer, (long, (ap length (c .before .before .next-summary .ensures) ∙ length-nextSummary _ _, ready _ _ _ long (offered-range _ _ _ _ _ _ _ o) (p .1 .1 .1)))))
 
 returns : tie.Need-returns
 returns c =

@@ -1,0 +1,204 @@
+-- A run of three calls of the keeper that ships, with SHA-256, HMAC-SHA-256, 16 racks and records of 451 bytes: open, a perform that
+-- sets the capacity of rack 3 to 100, and a view. What the calls answered and did is computed; the authenticators and the summary are
+-- 32 bytes each, written out. Assumes nothing.
+use mathlib.Core.Path.{_≡_, refl, ap, _∙_}
+use Prim.Native.Nat.{ℕ}
+use mathlib.Core.List.{List, [], _∷_, _++_}
+use lib.ListN.{replicate}
+use Rattle.numbers.specs.Numbers.{beFrom, be, bytesOf}
+use Rattle.numbers.specs.Parts.{part, over}
+use Rattle.numbers.specs.Comparing.{same}
+use Rattle.racks.specs.Racks.{firstState}
+use Rattle.racks.specs.Layout.{rackOf, bytesOfRack, stateOf, bytesOfState}
+use Rattle.racks.specs.Rule.{goodRack, goodState}
+use Rattle.racks.specs.Figures.{percent, totalStored}
+use Rattle.requests.specs.Layout.{bytesOfRequest}
+use Rattle.requests.specs.Formed.{rightForm, rightOther, rightAmount, wellFormed}
+use Rattle.requests.specs.Requests.{requestBy, requestOf, readRequest}
+use Rattle.rules.specs.Rules.{overCapacity, overStored, overLimit, verdict, carryOut}
+use Rattle.rules.specs.Replay.{book}
+use Rattle.records.specs.declared.Tested.{Tested}
+use Rattle.records.specs.declared.Tested.the-variants.{Passed}
+use Rattle.records.specs.Page.{zeroSummary}
+use Rattle.records.specs.Record.{recordOf, rightSize, rightVersion, rightState}
+use Rattle.records.specs.Tests.{tested}
+use Rattle.sha256_words.specs.Words.{wordAt, _⊞_, SHL, SHR, ROTR}
+use Rattle.sha256_words.specs.Functions.{Ch, Maj, Σ₀, Σ₁, σ₀, σ₁}
+use Rattle.sha256_block.specs.Constants.{K}
+use Rattle.sha256_block.specs.Schedule.{nextWord, schedule, W}
+use Rattle.sha256_block.specs.Step.{T₁, T₂, round, roundAt, rounds, addTo, nextHash}
+use Rattle.sha256.specs.Padding.{k, padding, pad}
+use Rattle.sha256.specs.Parsing.{words, block, blocks}
+use Rattle.sha256.specs.Computation.{H₀, hashes, digest, sha256}
+use Rattle.hmac.specs.Hmac.{_⊕_, K₀, hmac}
+use Rattle.bindings.specs.Hashed.{authenticatorOf}
+use Rattle.answers.specs.Design.{Design}
+use Rattle.answers.specs.Hashing.{nextSummary, binding, bindingIn}
+use Rattle.answers.specs.Judging.{Verdict, good, performVerdict, viewVerdict}
+use Rattle.answers.specs.Answers.{openTests, openedBy, opened, answeredBy, performed, viewedBy, viewed}
+use Rattle.answers.specs.Edition.{servedBytes, storedAfter, thisEdition}
+use Rattle.histories.specs.Runs.{opens, performs, views, whole, Run, gathered}
+use Rattle.histories.specs.Effects.{boundMessages, recordMessages, nextMessages, hashed, found, taken, byCall}
+use Rattle.histories.specs.Premises.{answeredBefore, movedBefore}
+
+-- ---- what the run is made of
+
+-- capacity 100 for rack 3
+abbrev pub a : List ℕ
+a = bytesOfRequest 1 3 0 100
+
+abbrev pub state-0 : List ℕ
+state-0 = replicate 384 0
+
+abbrev pub state-a : List ℕ
+state-a = replicate 72 0 ++ bytesOf 4 100 ++ replicate 308 0
+
+-- the summary after it
+abbrev pub summary-a : List ℕ
+summary-a =
+    0xe3 ∷ 0x0f ∷ 0xf4 ∷ 0x0d ∷ 0xc6 ∷ 0x93 ∷ 0x04 ∷ 0x63 ∷ 0x45 ∷ 0x01 ∷ 0x26 ∷ 0xf3 ∷ 0x4f ∷ 0x17 ∷ 0xa6 ∷ 0xfd
+    ∷ 0x8d ∷ 0xa7 ∷ 0x68 ∷ 0x2b ∷ 0x10 ∷ 0x42 ∷ 0xc0 ∷ 0x1f ∷ 0xd7 ∷ 0x71 ∷ 0xac ∷ 0x50 ∷ 0x04 ∷ 0x23 ∷ 0x99 ∷ 0x62
+    ∷ []
+
+-- the authenticators, under a key of 32 bytes 07
+abbrev pub key : List ℕ
+key = replicate 32 7
+
+abbrev pub authenticator-0 : List ℕ
+authenticator-0 =
+    0x54 ∷ 0x02 ∷ 0x39 ∷ 0xb8 ∷ 0x57 ∷ 0xd8 ∷ 0x4b ∷ 0xb7 ∷ 0x5f ∷ 0x53 ∷ 0x54 ∷ 0x2a ∷ 0x88 ∷ 0x2b ∷ 0xd9 ∷ 0x3e
+    ∷ 0x7b ∷ 0x72 ∷ 0x85 ∷ 0x8a ∷ 0x5c ∷ 0x57 ∷ 0xc4 ∷ 0xb7 ∷ 0xde ∷ 0x6c ∷ 0x3c ∷ 0x6d ∷ 0xc7 ∷ 0x29 ∷ 0x5a ∷ 0x59
+    ∷ []
+
+abbrev pub authenticator-a : List ℕ
+authenticator-a =
+    0x68 ∷ 0x8a ∷ 0x36 ∷ 0x72 ∷ 0x00 ∷ 0x19 ∷ 0x2e ∷ 0x57 ∷ 0x4e ∷ 0xa1 ∷ 0xa3 ∷ 0x31 ∷ 0x8d ∷ 0xe3 ∷ 0xb8 ∷ 0xd2
+    ∷ 0xe5 ∷ 0xb2 ∷ 0xa3 ∷ 0x2a ∷ 0x72 ∷ 0x0c ∷ 0x60 ∷ 0x96 ∷ 0x7a ∷ 0x32 ∷ 0x36 ∷ 0x44 ∷ 0x33 ∷ 0x63 ∷ 0xc3 ∷ 0x10
+    ∷ []
+
+-- the records, the fresh page and a buffer
+abbrev pub record-0 : List ℕ
+record-0 = 0x01 ∷ 0xC1 ∷ 0x01 ∷ state-0 ++ zeroSummary ++ authenticator-0
+
+abbrev pub record-a : List ℕ
+record-a = 0x01 ∷ 0xC1 ∷ 0x01 ∷ state-a ++ summary-a ++ authenticator-a
+
+abbrev pub fresh : List ℕ
+fresh = zeroSummary ++ key
+
+abbrev pub room : List ℕ
+room = replicate 451 0
+
+-- ---- what is computed by
+
+-- to unfold this is to unfold all but the hash
+unfoldable pub computing : Unit {0}
+unfolding zeroSummary openTests opened performed viewed performVerdict viewVerdict same part over beFrom be bytesOf tested rightSize rightVersion rightState goodState goodRack stateOf rackOf bytesOfRack bytesOfState bytesOfRequest firstState percent totalStored rightForm rightOther rightAmount wellFormed requestBy requestOf readRequest overCapacity overStored overLimit verdict carryOut book servedBytes storedAfter recordOf
+computing = tt
+
+-- and this the hash and the MAC
+unfoldable pub hashing : Unit {0}
+unfolding computing wordAt _⊞_ SHL SHR ROTR Ch Maj Σ₀ Σ₁ σ₀ σ₁ K H₀ k padding pad words block blocks nextWord schedule W T₁ T₂ round roundAt rounds addTo nextHash hashes digest sha256 _⊕_ K₀ hmac authenticatorOf
+hashing = tt
+
+-- ---- the three calls
+
+pub open-passes : openTests thisEdition fresh room ≡ Passed
+unfolding computing
+open-passes = refl
+
+pub summary-is : sha256 (0x02 ∷ zeroSummary ++ a) ≡ summary-a
+unfolding hashing
+summary-is = refl
+
+pub perform-is : performVerdict thisEdition fresh record-0 a room ≡ good state-a
+unfolding hashing
+perform-is = refl
+
+pub view-is : viewVerdict thisEdition (summary-a ++ key) record-a 3 ≡ good state-a
+unfolding hashing
+view-is = refl
+
+-- ---- what the run did
+
+-- a run of an open, a perform and a view, each accepted, over any design: its lists
+abbrev steps : List ℕ → List ℕ → List ℕ → List ℕ → ℕ → Run
+steps room l request m rack = whole (views m rack) ∷ whole (performs l request room) ∷ whole (opens room) ∷ []
+
+pub record Did (D : Design) (fresh : List ℕ) (run : Run) (messages findings records bindings requests : List (List ℕ)) : Type 0 where
+  pub hashes : gathered (byCall hashed D) D fresh run ≡ messages
+  pub finds : gathered (byCall found D) D fresh run ≡ findings
+  pub takes : gathered (byCall taken D) D fresh run ≡ records
+  pub answers : answeredBefore D fresh run ≡ bindings
+  pub moves : movedBefore D fresh run ≡ requests
+
+module _ (D : Design) (fresh room l request m after state shown : List ℕ) (rack : ℕ) (one : openTests D fresh room ≡ Passed)
+    (two : performVerdict D fresh l request room ≡ good state) (page : D .withSummary fresh (nextSummary D (D .summary l) request) ≡ after)
+    (three : viewVerdict D after m rack ≡ good shown) where
+  page-1 : opened D fresh room .page ≡ fresh
+  unfolding opened
+  page-1 = ap (λ (t : Tested). openedBy D fresh room t .page) one
+
+  page-2 : performed D (opened D fresh room .page) l request room .page ≡ after
+  unfolding performed
+  page-2 =
+      ap (λ (p : List ℕ). performed D p l request room .page) page-1
+      ∙ ap (λ (v : Verdict). answeredBy D fresh l request room (D .withSummary fresh (nextSummary D (D .summary l) request)) v .page) two
+      ∙ page
+
+  did : Did D fresh (steps room l request m rack)
+      (recordMessages D m ++ (recordMessages D l ++ nextMessages D l request state) ++ boundMessages D zeroSummary (D .firstBytes))
+      (bindingIn D m ∷ bindingIn D l ∷ []) (m ∷ l ∷ [])
+      (binding D (nextSummary D (D .summary l) request) state ∷ binding D zeroSummary (D .firstBytes) ∷ []) (request ∷ [])
+  did =
+      record {
+        hashes = rw (page-2, page-1, three, two, one) refl;
+        finds = rw (page-2, page-1, three, two) refl;
+        takes = rw (page-2, page-1, three, two) refl;
+        answers = rw (page-1, two, one) refl;
+        moves = rw (page-1, two) refl;
+      }
+
+  accepted : (opened D fresh room .number ≡ 0) × (performed D fresh l request room .number ≡ 0)
+      × (viewed D after m rack ≡ record { number = 0; figures = D .figures shown rack })
+  unfolding opened performed viewed
+  accepted = (
+    ap (λ (t : Tested). openedBy D fresh room t .number) one,
+    ap (λ (v : Verdict). answeredBy D fresh l request room (D .withSummary fresh (nextSummary D (D .summary l) request)) v .number) two,
+    ap (viewedBy D rack) three,
+  )
+
+-- the messages, in document 01's words
+abbrev stating : List ℕ → List ℕ
+stating state = 0x01 ∷ state
+
+abbrev moving : List ℕ → List ℕ → List ℕ
+moving summary request = 0x02 ∷ summary ++ request
+
+abbrev joining : List ℕ → List ℕ → List ℕ
+joining summary state = 0x03 ∷ summary ++ sha256 (stating state)
+
+-- the page after the perform
+page-is : over 0 (sha256 (moving zeroSummary a)) fresh ≡ summary-a ++ key
+unfolding computing
+page-is = ap (λ (next : List ℕ). over 0 next fresh) summary-is
+
+pub the-run-did : Did thisEdition fresh (steps room record-0 a record-a 3)
+    -- messages: of the view, of the perform and of the open
+    (stating state-a ∷ joining summary-a state-a
+    ∷ stating state-0 ∷ joining zeroSummary state-0 ∷ moving zeroSummary a ∷ stating state-a ∷ joining (sha256 (moving zeroSummary a)) state-a
+    ∷ stating state-0 ∷ joining zeroSummary state-0
+    ∷ [])
+    -- findings, records taken, bindings answered and requests that moved the page
+    (sha256 (joining summary-a state-a) ∷ sha256 (joining zeroSummary state-0) ∷ [])
+    (record-a ∷ record-0 ∷ [])
+    (sha256 (joining (sha256 (moving zeroSummary a)) state-a) ∷ sha256 (joining zeroSummary state-0) ∷ [])
+    (a ∷ [])
+unfolding computing
+the-run-did = did thisEdition fresh room record-0 a record-a (summary-a ++ key) state-a state-a 3 open-passes perform-is page-is view-is
+
+-- what they answered: 0, and the figures of rack 3
+pub numbers-are : (opened thisEdition fresh room .number ≡ 0) × (performed thisEdition fresh record-0 a room .number ≡ 0)
+    × (viewed thisEdition (summary-a ++ key) record-a 3 ≡ record { number = 0; figures = record { stored = 0; capacity = 100; percent = 0; total = 0 } })
+unfolding computing
+numbers-are = accepted thisEdition fresh room record-0 a record-a (summary-a ++ key) state-a state-a 3 open-passes perform-is page-is view-is

@@ -4,7 +4,8 @@
  * The controller has 64 bytes of protected memory, the page: a summary of all that was ever booked, and a key. The
  * book itself, a record of 451 bytes, lies with the site computer. It may be lost, changed or replaced by an old one;
  * the keeper takes no record for the current one but that which the last booking answered. This rests on SHA-256 and
- * HMAC: that no two messages that are hashed share a hash, and that nobody makes an authenticator without the key.
+ * HMAC: that no two different messages that are hashed share a hash, that none hashes to 32 zero bytes, and that nobody
+ * makes an authenticator without the key.
  *
  *     open       a fresh page           gives the first record
  *     perform    record and request     gives the next record, and moves the page
@@ -12,18 +13,47 @@
  *     view       record and rack        says whether the record is current, and gives figures
  *     resume     two records            says which of them is current
  *
+ * docs/REFERENCE.md has the rules whole, docs/INTEGRATING.md what a site has to provide.
+ *
  * How a host uses them
  *
  *   A new controller has a page of 32 zero bytes and 32 bytes of key. keeper_open gives its first record.
  *
- *   To book a request, store the request, and the record that it is for, where a power cut does not reach them. Then
- *   call keeper_perform. When it returns 0, the answer is the current record and the one before is current no more;
- *   store the answer. Keep the record before and its request until the answer is stored.
+ *   What follows is a module that a site may take over as it is: host/book.c, with the note of host/note.c. A site that
+ *   writes its own does the same, in the same order, each step stored where a power cut does not reach it before the
+ *   next begins:
  *
- *   After a restart, offer keeper_resume the record in RAM and the one from disk. If it returns 0, neither is current:
- *   a cut has come between the page and the answer. Then call keeper_repeat with the stored record and its request. It
- *   gives the lost answer. If that is refused as well, the site computer no longer has the current record, and nothing
- *   can be booked on another.
+ *     Before perform, three things are stored: the current record; the request; and, with the request, the summary of
+ *     the record that it is for (KEEPER_SUMMARY_AT) and that its outcome is not known yet: it is pending.
+ *     1. keeper_perform. When it returns 0, the page has moved: the request is booked, the answer is the current record
+ *        and the one before is current no more. Another number is a refusal: nothing is booked and nothing has changed;
+ *        note that the request is no longer pending.
+ *     2. The answer is stored, in a place of its own: never over the record that the request is for.
+ *     3. It is noted that the request is booked. Only now may anybody be told so.
+ *     The record before and the request are kept until the next request's answer is stored. They are what keeper_repeat
+ *     gives a lost or damaged answer back from.
+ *
+ *   After a restart, offer keeper_resume the two records that are stored.
+ *
+ *     KEEPER_RAM or KEEPER_DISK: that one is the current record.
+ *     KEEPER_NEITHER: a cut has come between the page and the answer, or a record is damaged. Call keeper_repeat with
+ *     the pending request and the record that has the summary noted with it. If that is refused, or nothing is pending,
+ *     call it with the last request booked and the record that that one was for. If either returns 0, it has given the
+ *     current record; store it as in step 2, before the next perform. If not, the site no longer has the current
+ *     record, and nothing can be booked on another. (On a fresh page keeper_open gives it again.)
+ *
+ *   Then, if a request is pending, and whatever keeper_resume has returned, look for the record that has the summary
+ *   noted with it, and no other:
+ *
+ *     keeper_repeat returns 0 with that record and the request: the request is booked. Go on with step 3, and do not
+ *     perform it again.
+ *     that record is the current one: the request is not booked. It may be performed.
+ *     neither, or that record is not there: it can't be told whether the request is booked. Do not perform it again
+ *     before somebody has found out.
+ *
+ *   A refusal of keeper_repeat alone says nothing: with the current record it gives KEEPER_REFUSED_CURRENT for a
+ *   request that is booked, and with a damaged one another number. And with another record it may accept a request that
+ *   is not booked, since an earlier one asked the same.
  *
  * Power cuts
  *
@@ -33,26 +63,45 @@
  *
  *   Take a record that was current before a perform that would be accepted. After a cut in that perform, and no other
  *   perform since, exactly one of keeper_perform and keeper_repeat is accepted with the same record and request (and
- *   room for the answer), and it gives the record of the uncut call; the other one gives KEEPER_REFUSED_CURRENT. So
- *   repeat tells, after a cut, whether the request was booked: if it is accepted the request was, and is not booked
- *   again; if it gives KEEPER_REFUSED_CURRENT the request was not.
+ *   room for the answer), and it gives the record of the uncut call; the other one gives KEEPER_REFUSED_CURRENT.
+ *
+ * The key
+ *
+ *   Whoever knows the key can make records that pass. So it is secret, and it is 32 random bytes. It serves one
+ *   controller and one fresh page: two controllers with one key may take each other's records, and a page that is set
+ *   back, to zero or to an older page, under its old key takes old records again. A controller that begins anew gets a
+ *   new key. The keeper does not wipe what it worked out from the key off the stack.
  *
  * What holds for every function
  *
  *   A buffer is a pointer and the count of its bytes. Every count and every content is taken: what is not right is
- *   refused and never read beyond its end. A buffer of 0 bytes may have the pointer NULL.
+ *   refused and never read beyond its end. A buffer of 0 bytes may have the pointer NULL. A buffer may lie at any
+ *   address; no alignment is asked for.
  *
- *   No two buffers of one call overlap.
+ *   A buffer that is written (the answer, and perform's page) overlaps no other buffer of the call. Those that are only
+ *   read may overlap each other, and may be the same.
  *
  *   A function returns 0 if the call is accepted, else the number of its refusal; the figures of view and
  *   keeper_resume return what stands with them. The tests are made in the order of the numbers, and the first that
- *   applies is the answer. A refusal writes to no buffer.
+ *   applies is the answer. A refusal writes to no buffer. A result that is ignored is a warning where the compiler can
+ *   give one.
  *
  *   An answer buffer of more than 451 bytes is taken: the record is written to its first 451 bytes, and the others
  *   stay as they are. A record that is lent has 451 bytes exactly, a request 10 and a page 64.
  *
  *   The key is never written. A function keeps nothing from one call to the next, allocates nothing and always returns.
- *   Calls on different buffers may run at the same time.
+ *   Calls may be made from several threads and from interrupts, also in the middle of another call, as long as no
+ *   buffer that one of them writes is lent to another at the same time. A page that keeper_perform is writing is in
+ *   part old and in part new until the call returns.
+ *
+ * What the archive needs
+ *
+ *   An x86-64 processor with SSE2, the System V calling convention (a stack aligned to 16 bytes at the call, and the
+ *   128 bytes below the stack pointer left alone by interrupts), memset, and nothing else. It has no data that is
+ *   written. The bytes of stack that a call takes, measured, the return address among them:
+ *
+ *     keeper_open 1144      keeper_perform 1272      keeper_repeat 1320
+ *     keeper_view and each of its figures 1032       keeper_resume 1048
  *
  * For C99 and C++.
  */
@@ -64,6 +113,16 @@
 
 #ifdef __cplusplus
 extern "C" {
+#endif
+
+/* The version of this header and of the archive that it belongs to: 10,000 for 1.0.0, 10,203 for 1.2.3. */
+#define KEEPER_VERSION 10100
+
+/* Where a compiler can, it warns of a result that is ignored: a refusal would go unseen. */
+#if defined(__GNUC__)
+#define KEEPER_RESULT __attribute__((warn_unused_result))
+#else
+#define KEEPER_RESULT
 #endif
 
 /* ---- Layouts. All numbers are big-endian. */
@@ -80,6 +139,8 @@ extern "C" {
 #define KEEPER_RACKS 16
 #define KEEPER_RACK_SIZE 24
 #define KEEPER_SUMMARY_AT 387
+#define KEEPER_AUTHENTICATOR_AT 419
+#define KEEPER_AUTHENTICATOR_SIZE 32
 
 /* A rack, from its own start: capacity 4, stored 4, taken in 8, given out 8. Charge is counted in ampere-seconds. */
 #define KEEPER_CAPACITY_AT 0
@@ -94,6 +155,11 @@ extern "C" {
 #define KEEPER_REQUEST_SIZE 10
 #define KEEPER_REQUEST_LENGTH 8
 #define KEEPER_REQUEST_VERSION 1
+#define KEEPER_REQUEST_VERSION_AT 2
+#define KEEPER_REQUEST_KIND_AT 3
+#define KEEPER_REQUEST_RACK_AT 4
+#define KEEPER_REQUEST_OTHER_AT 5
+#define KEEPER_REQUEST_AMOUNT_AT 6
 
 /* ---- What a request asks: its kind. */
 
@@ -128,7 +194,7 @@ extern "C" {
 #define KEEPER_REFUSED_STATE 5
 /* The request is not well formed; in view, the rack is 16 or more. */
 #define KEEPER_REFUSED_REQUEST 6
-/* The authenticator is not valid: the record was changed, or it is another controller's. */
+/* The authenticator is not valid: the record was changed, or was made under another key. */
 #define KEEPER_REFUSED_AUTHENTICATOR 7
 /* The record is not current, as each call says below. */
 #define KEEPER_REFUSED_CURRENT 8
@@ -159,6 +225,7 @@ extern "C" {
  *
  * Returns 0, or, in this order: KEEPER_REFUSED_PAGE, KEEPER_REFUSED_ANSWER, KEEPER_REFUSED_FRESH.
  */
+KEEPER_RESULT
 uint32_t keeper_open(const uint8_t *page, size_t page_len, uint8_t *answer, size_t answer_len);
 
 /*
@@ -173,6 +240,7 @@ uint32_t keeper_open(const uint8_t *page, size_t page_len, uint8_t *answer, size
  * KEEPER_REFUSED_VERSION, KEEPER_REFUSED_STATE, KEEPER_REFUSED_REQUEST, KEEPER_REFUSED_AUTHENTICATOR,
  * KEEPER_REFUSED_CURRENT, KEEPER_REFUSED_CAPACITY, KEEPER_REFUSED_STORED, KEEPER_REFUSED_LIMIT.
  */
+KEEPER_RESULT
 uint32_t keeper_perform(uint8_t *page, size_t page_len, const uint8_t *record, size_t record_len,
                         const uint8_t *request, size_t request_len, uint8_t *answer, size_t answer_len);
 
@@ -187,6 +255,7 @@ uint32_t keeper_perform(uint8_t *page, size_t page_len, const uint8_t *record, s
  *
  * Returns 0, or a number of perform's list, in the same order.
  */
+KEEPER_RESULT
 uint32_t keeper_repeat(const uint8_t *page, size_t page_len, const uint8_t *record, size_t record_len,
                        const uint8_t *request, size_t request_len, uint8_t *answer, size_t answer_len);
 
@@ -199,6 +268,7 @@ uint32_t keeper_repeat(const uint8_t *page, size_t page_len, const uint8_t *reco
  * KEEPER_REFUSED_CURRENT, KEEPER_REFUSED_TOTAL. The last is in the list for the sake of its number: sixteen racks of
  * the highest capacity stay below it.
  */
+KEEPER_RESULT
 uint32_t keeper_view(const uint8_t *page, size_t page_len, const uint8_t *record, size_t record_len, uint32_t rack);
 
 /*
@@ -207,16 +277,20 @@ uint32_t keeper_view(const uint8_t *page, size_t page_len, const uint8_t *record
  *
  * keeper_view_stored returns what is stored in the rack, and keeper_view_capacity its capacity.
  */
+KEEPER_RESULT
 uint32_t keeper_view_stored(const uint8_t *page, size_t page_len, const uint8_t *record, size_t record_len,
                             uint32_t rack);
+KEEPER_RESULT
 uint32_t keeper_view_capacity(const uint8_t *page, size_t page_len, const uint8_t *record, size_t record_len,
                               uint32_t rack);
 
 /* Returns 100 times stored divided by capacity, rounded down; 0 for a rack of capacity 0. */
+KEEPER_RESULT
 uint32_t keeper_view_percent(const uint8_t *page, size_t page_len, const uint8_t *record, size_t record_len,
                              uint32_t rack);
 
 /* Returns the sum of what is stored in all racks. The rack is tested as in view, and does not change the sum. */
+KEEPER_RESULT
 uint32_t keeper_view_total(const uint8_t *page, size_t page_len, const uint8_t *record, size_t record_len,
                            uint32_t rack);
 
@@ -228,6 +302,7 @@ uint32_t keeper_view_total(const uint8_t *page, size_t page_len, const uint8_t *
  * KEEPER_NEITHER if neither is, and also for a page that is not 64 bytes. It has no refusal. After KEEPER_NEITHER
  * comes keeper_repeat.
  */
+KEEPER_RESULT
 uint32_t keeper_resume(const uint8_t *page, size_t page_len, const uint8_t *ram, size_t ram_len, const uint8_t *disk,
                        size_t disk_len);
 

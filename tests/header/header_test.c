@@ -1,7 +1,7 @@
 /*
  * Holds every constant and sentence of host/keeper.h that a call can answer to the library's answers. One source for
  * C99 and C++. It makes its own page and so knows the key; it signs records itself, with mbedTLS, where a state is
- * wanted that the calls would take long to reach or would never answer.
+ * wanted that the calls would take long to reach or would never answer. NEWEST_VERSION is that of CHANGES.md.
  */
 #include <stdio.h>
 #include <stdlib.h>
@@ -72,11 +72,11 @@ static uint64_t get(const uint8_t *at, int width)
 static void ask(int kind, int rack, int other, uint32_t amount)
 {
     put(request, 2, KEEPER_REQUEST_LENGTH);
-    request[2] = KEEPER_REQUEST_VERSION;
-    request[3] = (uint8_t)kind;
-    request[4] = (uint8_t)rack;
-    request[5] = (uint8_t)other;
-    put(request + 6, 4, amount);
+    request[KEEPER_REQUEST_VERSION_AT] = KEEPER_REQUEST_VERSION;
+    request[KEEPER_REQUEST_KIND_AT] = (uint8_t)kind;
+    request[KEEPER_REQUEST_RACK_AT] = (uint8_t)rack;
+    request[KEEPER_REQUEST_OTHER_AT] = (uint8_t)other;
+    put(request + KEEPER_REQUEST_AMOUNT_AT, 4, amount);
 }
 
 static uint8_t *rack_of(uint8_t *some_record, int rack)
@@ -104,7 +104,7 @@ static void sign(uint8_t *some_record)
     mbedtls_sha256(state, 1 + state_size, binding + 1 + KEEPER_SUMMARY_SIZE, 0);
     mbedtls_sha256(binding, 1 + KEEPER_SUMMARY_SIZE + 32, hash, 0);
     mbedtls_md_hmac(mbedtls_md_info_from_type(MBEDTLS_MD_SHA256), page + KEEPER_KEY_AT, KEEPER_KEY_SIZE, hash, 32,
-                    some_record + KEEPER_SUMMARY_AT + KEEPER_SUMMARY_SIZE);
+                    some_record + KEEPER_AUTHENTICATOR_AT);
 }
 
 /* ---- The calls on those buffers at their right sizes. A refusal has to leave page and answer as they were. */
@@ -238,6 +238,9 @@ static void test_layout(void)
     holds(KEEPER_KEY_AT == KEEPER_SUMMARY_SIZE && KEEPER_KEY_AT + KEEPER_KEY_SIZE == KEEPER_PAGE_SIZE,
           "a page is its summary and its key");
     holds(KEEPER_RACKS_AT + KEEPER_RACKS * KEEPER_RACK_SIZE == KEEPER_SUMMARY_AT, "the summary follows the racks");
+    holds(KEEPER_AUTHENTICATOR_AT == KEEPER_SUMMARY_AT + KEEPER_SUMMARY_SIZE &&
+              KEEPER_AUTHENTICATOR_AT + KEEPER_AUTHENTICATOR_SIZE == KEEPER_RECORD_SIZE,
+          "the authenticator follows the summary and ends the record");
     for (i = 0; i < KEEPER_RACKS; i++)
         book(KEEPER_CAPACITY, i, 0, (uint32_t)(1000 + i), "a capacity is booked on every rack");
     for (i = 0; i < KEEPER_RACKS; i++)
@@ -316,7 +319,7 @@ static void test_fields(void)
     put(request, 2, KEEPER_REQUEST_LENGTH + 1);
     both_refuse(KEEPER_REFUSED_REQUEST, "a request's other length is refused");
     ask(KEEPER_CAPACITY, 0, 0, 1);
-    request[2] = KEEPER_REQUEST_VERSION + 1;
+    request[KEEPER_REQUEST_VERSION_AT] = KEEPER_REQUEST_VERSION + 1;
     both_refuse(KEEPER_REFUSED_REQUEST, "a request's other version is refused");
     ask(KEEPER_CAPACITY, KEEPER_RACKS, 0, 1);
     both_refuse(KEEPER_REFUSED_REQUEST, "a rack that is not there is refused");
@@ -518,6 +521,49 @@ static void test_null(void)
     gives(keeper_resume(page, p, NULL, 0, NULL, 0), KEEPER_NEITHER, "resume without any record");
 }
 
+/* Buffers that are only read may overlap: a request that lies in the page's key, a page in a record, a record twice. */
+static void test_overlap(void)
+{
+    uint8_t performed[ROOM];
+    const size_t p = KEEPER_PAGE_SIZE, r = KEEPER_RECORD_SIZE, q = KEEPER_REQUEST_SIZE;
+
+    make_page();
+    ask(KEEPER_CAPACITY, 0, 0, 7);
+    memcpy(page + KEEPER_KEY_AT, request, q);
+    gives(open_it(p, r), KEEPER_ACCEPTED, "open takes a key of any bytes");
+    memcpy(record, answer, ROOM);
+    gives(perform(), KEEPER_ACCEPTED, "a capacity is booked");
+    memcpy(performed, answer, ROOM);
+    remember();
+    gives(keeper_repeat(page, p, record, r, page + KEEPER_KEY_AT, q, answer, r), KEEPER_ACCEPTED,
+          "repeat takes a request that lies in the page");
+    holds(memcmp(answer, performed, ROOM) == 0, "and answers as with another");
+    gives(resume(performed, performed), KEEPER_RAM, "resume takes one record for both");
+    gives(keeper_view(performed + KEEPER_SUMMARY_AT, p, performed, r, 0), KEEPER_REFUSED_AUTHENTICATOR,
+          "view takes a page that lies in the record, and refuses the record under that key");
+}
+
+/* No alignment is asked for: the accepted calls again, with every buffer at an odd address and at others. */
+static void test_alignment(void)
+{
+    static uint8_t pages[ROOM + 8], records[ROOM + 8], requests[ROOM + 8], answers[ROOM + 8];
+    const size_t p = KEEPER_PAGE_SIZE, r = KEEPER_RECORD_SIZE, q = KEEPER_REQUEST_SIZE;
+
+    begin();
+    ask(KEEPER_CAPACITY, 0, 0, 7);
+    memcpy(page_before, page, ROOM);
+    gives(perform(), KEEPER_ACCEPTED, "a capacity is booked");
+    for (int i = 1; i < 8; i++) {
+        memcpy(pages + i, page_before, p);
+        memcpy(records + i, record, r);
+        memcpy(requests + i, request, q);
+        gives(keeper_perform(pages + i, p, records + i, r, requests + i, q, answers + i, r), KEEPER_ACCEPTED,
+              "perform takes buffers at any address");
+        holds(memcmp(answers + i, answer, r) == 0 && memcmp(pages + i, page, p) == 0, "and answers the same");
+        gives(keeper_resume(pages + i, p, records + i, r, answers + i, r), KEEPER_DISK, "so does resume");
+    }
+}
+
 /* No call can be brought to refusal 12, so its number is held to be the one that the others leave. */
 static void test_numbers(void)
 {
@@ -533,6 +579,7 @@ static void test_numbers(void)
     for (size_t i = 0; i < sizeof produced / sizeof *produced; i++)
         left -= produced[i];
     gives(KEEPER_REFUSED_TOTAL, left, "refusal 12 has the number that the others leave");
+    gives(KEEPER_VERSION, NEWEST_VERSION, "the header has the newest version of CHANGES.md");
 }
 
 int main(void)
@@ -549,6 +596,8 @@ int main(void)
     test_view();
     test_resume();
     test_null();
+    test_overlap();
+    test_alignment();
     test_numbers();
     printf("%u checks passed\n", passed);
     return 0;

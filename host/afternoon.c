@@ -1,7 +1,8 @@
 /*
  * The afternoon that the keeper was made for: a copy of the charge book that is exactly 65,536 updates old is handed
- * back to the controller, and a power cut takes an answer away. Every answer of the keeper's is shown, and held to what
- * it should be: the program ends with status 1 at the first that is another.
+ * back to the controller, a power cut takes an answer away, and records come that the controller never answered. Every
+ * answer of the keeper's is shown, and held to what it should be: the program ends with status 1 at the first that is
+ * another.
  */
 #include <stdio.h>
 #include <stdlib.h>
@@ -11,12 +12,15 @@
 #include "request.h"
 #include "show.h"
 
-enum { RACKS_HERE = 4, ROUND = 65536, DOT = 4096, CUT_AMOUNT = 5000 };
+enum { RACKS_HERE = 4, ROUND = 65536, DOT = 4096, CUT_AMOUNT = 5000, FORGED_AMOUNT = 60000 };
 
 /* The controller's page, and what the site computer has: the current record, and a copy that somebody kept. */
 static uint8_t page[KEEPER_PAGE_SIZE];
 static uint8_t book[KEEPER_RECORD_SIZE], kept[KEEPER_RECORD_SIZE];
 static uint8_t answer[KEEPER_RECORD_SIZE], nothing[KEEPER_RECORD_SIZE];
+
+/* A second controller, with another key, and its record. It books the same, and its power is never cut. */
+static uint8_t second_page[KEEPER_PAGE_SIZE], second_book[KEEPER_RECORD_SIZE];
 
 /* What was booked: how many updates, and what the racks together hold by them. */
 static unsigned long updates;
@@ -40,6 +44,13 @@ static void answered(const char *call, uint32_t number, uint32_t expected)
     shown(call, number, expected, refusal_words(number));
 }
 
+/* The words for this refusal are too long for a line. */
+static void answered_not_valid(const char *call, uint32_t number)
+{
+    shown(call, number, KEEPER_REFUSED_AUTHENTICATOR,
+          number == KEEPER_REFUSED_AUTHENTICATOR ? "the authenticator is not valid" : refusal_words(number));
+}
+
 static uint32_t perform(const uint8_t *record, const uint8_t *request)
 {
     return keeper_perform(page, sizeof page, record, KEEPER_RECORD_SIZE, request, KEEPER_REQUEST_SIZE, answer,
@@ -57,10 +68,21 @@ static uint32_t resume(const uint8_t *ram, const uint8_t *disk)
     return keeper_resume(page, sizeof page, ram, KEEPER_RECORD_SIZE, disk, KEEPER_RECORD_SIZE);
 }
 
+static void second_books(const uint8_t *request)
+{
+    uint8_t next[KEEPER_RECORD_SIZE];
+
+    if (keeper_perform(second_page, sizeof second_page, second_book, sizeof second_book, request, KEEPER_REQUEST_SIZE,
+                       next, sizeof next) != KEEPER_ACCEPTED)
+        wrong("the second controller refuses an update");
+    memcpy(second_book, next, sizeof second_book);
+}
+
 /* The answer to a request has reached the site computer. */
-static void booked(int kind, uint32_t amount)
+static void booked(const uint8_t *request, int kind, uint32_t amount)
 {
     memcpy(book, answer, sizeof book);
+    second_books(request);
     updates++;
     balance += kind == KEEPER_CHARGE ? amount : 0;
     balance -= kind == KEEPER_DISCHARGE ? amount : 0;
@@ -73,7 +95,7 @@ static void update(int kind, uint8_t rack, uint32_t amount)
     make_request(request, kind, rack, 0, amount);
     if (perform(book, request) != KEEPER_ACCEPTED)
         wrong("an update is refused");
-    booked(kind, amount);
+    booked(request, kind, amount);
 }
 
 static void racks(const char *when)
@@ -92,9 +114,13 @@ static void begin(void)
            "    The controller has %d bytes of protected memory, the page: a summary, zero at first, and a key.\n"
            "    The book, a record of %d bytes, goes to the site computer.\n\n",
            KEEPER_PAGE_SIZE, KEEPER_RECORD_SIZE);
-    for (int i = 0; i < KEEPER_KEY_SIZE; i++)
+    for (int i = 0; i < KEEPER_KEY_SIZE; i++) {
         page[KEEPER_KEY_AT + i] = (uint8_t)(i * 37 + 11);
+        second_page[KEEPER_KEY_AT + i] = (uint8_t)(i * 41 + 5);
+    }
     answered("open", keeper_open(page, sizeof page, book, sizeof book), KEEPER_ACCEPTED);
+    if (keeper_open(second_page, sizeof second_page, second_book, sizeof second_book) != KEEPER_ACCEPTED)
+        wrong("the second controller opens no book");
     for (uint8_t i = 0; i < RACKS_HERE; i++) {
         update(KEEPER_CAPACITY, i, 72000);
         update(KEEPER_CHARGE, i, 70000);
@@ -123,12 +149,10 @@ static void a_round_of_updates(void)
     racks("The racks now");
 }
 
-static void the_old_copy(void)
+static void the_old_copy(const uint8_t *request)
 {
-    uint8_t request[KEEPER_REQUEST_SIZE];
     unsigned long then = updates - ROUND;
 
-    make_request(request, KEEPER_DISCHARGE, 0, 0, 50000);
     printf("3. The old copy comes back\n\n"
            "    The site computer restarts. Its RAM holds nothing, and from its disk it hands the controller the copy\n"
            "    of update %lu, by which rack 0 is nearly full. If the book had a number of 16 bits, the copy's would\n"
@@ -158,7 +182,7 @@ static void cut_after_the_page(const uint8_t *request)
           "neither is current");
     answered("perform once more: it is not booked twice", perform(book, request), KEEPER_REFUSED_CURRENT);
     answered("repeat: the lost answer is given again", repeat(book, request), KEEPER_ACCEPTED);
-    booked(KEEPER_CHARGE, CUT_AMOUNT);
+    booked(request, KEEPER_CHARGE, CUT_AMOUNT);
     answered("view of the record that repeat gave", keeper_view(page, sizeof page, book, sizeof book, 0),
              KEEPER_ACCEPTED);
     racks("The racks after it: rack 2 was charged once");
@@ -178,20 +202,69 @@ static void cut_before_the_page(const uint8_t *request)
     printf("    -- cut; the page is that of before, and the answer is lost --\n");
     answered("repeat: there is nothing to repeat", repeat(book, request), KEEPER_REFUSED_CURRENT);
     answered("perform once more: now it is booked", perform(book, request), KEEPER_ACCEPTED);
-    booked(KEEPER_CHARGE, CUT_AMOUNT);
+    booked(request, KEEPER_CHARGE, CUT_AMOUNT);
     racks("The racks after it: rack 2 was charged a second time, as was asked");
+}
+
+/* Adds to a number of a record, as anybody can who has the bytes. */
+static void add(uint8_t *number, int width, uint32_t amount)
+{
+    uint64_t carry = amount;
+
+    while (width-- > 0) {
+        carry += number[width];
+        number[width] = (uint8_t)carry;
+        carry >>= 8;
+    }
+}
+
+/* The state rule holds for it, and its summary is the page's: what stops it is the authenticator. */
+static void a_changed_record(const uint8_t *request)
+{
+    uint8_t changed[KEEPER_RECORD_SIZE], *rack = changed + KEEPER_RACKS_AT;
+
+    memcpy(changed, book, sizeof changed);
+    add(rack + KEEPER_STORED_AT, 4, FORGED_AMOUNT);
+    add(rack + KEEPER_TAKEN_IN_AT, 8, FORGED_AMOUNT);
+    printf("6. Records that the controller never answered\n\n"
+           "    Somebody adds 60,000 to what rack 0 holds and to what it has taken in: the figures agree with each\n"
+           "    other, and 50,000 could be discharged. But the record's authenticator was made with the key, and the\n"
+           "    key is in the page.\n\n");
+    answered_not_valid("perform with the changed record: discharge rack 0 by 50,000", perform(changed, request));
+    answered_not_valid("view of the changed record", keeper_view(page, sizeof page, changed, sizeof changed, 0));
+    shown("resume, with nothing in RAM and the changed record on disk", resume(nothing, changed), KEEPER_NEITHER,
+          "neither is current");
+}
+
+static void another_controllers_record(const uint8_t *request)
+{
+    if (memcmp(book, second_book, KEEPER_AUTHENTICATOR_AT) != 0)
+        wrong("the two controllers were asked for the same, and their books differ");
+    if (memcmp(book + KEEPER_AUTHENTICATOR_AT, second_book + KEEPER_AUTHENTICATOR_AT, KEEPER_AUTHENTICATOR_SIZE) == 0)
+        wrong("two keys give the same authenticator");
+    printf("\n"
+           "    A second controller was asked for the same all afternoon, and its power was never cut. Its record is\n"
+           "    this one byte for byte, but for the authenticator, since its key is another.\n\n");
+    answered_not_valid("perform with the other's record: discharge rack 0 by 50,000", perform(second_book, request));
+    answered_not_valid("view of the other's record",
+                       keeper_view(page, sizeof page, second_book, sizeof second_book, 0));
+    answered("view of the true record", keeper_view(page, sizeof page, book, sizeof book, 0), KEEPER_ACCEPTED);
+    printf("\n");
 }
 
 int main(void)
 {
-    uint8_t request[KEEPER_REQUEST_SIZE];
+    uint8_t request[KEEPER_REQUEST_SIZE], discharge[KEEPER_REQUEST_SIZE];
 
     make_request(request, KEEPER_CHARGE, 2, 0, CUT_AMOUNT);
+    make_request(discharge, KEEPER_DISCHARGE, 0, 0, 50000);
     begin();
     a_round_of_updates();
-    the_old_copy();
+    the_old_copy(discharge);
     cut_after_the_page(request);
     cut_before_the_page(request);
+    a_changed_record(discharge);
+    another_controllers_record(discharge);
     printf("%s updates were booked, none was lost and none was booked twice.\n", grouped(updates));
     return 0;
 }

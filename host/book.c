@@ -9,91 +9,17 @@ const char *const book_names[2] = {"book.a", "book.b"};
 #define PAGE_NAME "page"
 #define NOTE_NAME "request"
 
-/* ---- The note: the request's number 8, which copy it is for 1, the request. */
+/* ---- Reading. */
 
-enum { NOTE_COPY_AT = 8, NOTE_REQUEST_AT = 9, NOTE_SIZE = NOTE_REQUEST_AT + KEEPER_REQUEST_SIZE };
-
-static int read_note(struct note *n)
+static int load_note(struct book *b)
 {
     uint8_t bytes[NOTE_SIZE + 1];
     size_t len;
 
-    memset(n, 0, sizeof *n);
-    if (store_read(NOTE_NAME, bytes, sizeof bytes, &len) < 0)
-        return SITE_FAILED;
-    if (len != NOTE_SIZE || bytes[NOTE_COPY_AT] > 1)
-        return 0;
-    n->there = 1;
-    for (int i = 0; i < NOTE_COPY_AT; i++)
-        n->number = n->number << 8 | bytes[i];
-    n->copy = bytes[NOTE_COPY_AT];
-    memcpy(n->request, bytes + NOTE_REQUEST_AT, KEEPER_REQUEST_SIZE);
-    return 0;
+    b->note_there = store_read(NOTE_NAME, bytes, sizeof bytes, &len);
+    b->note_good = note_read(&b->note, bytes, len) == 0;
+    return b->note_there < 0 ? BOOK_FAILED : 0;
 }
-
-static int store_note(const struct note *n)
-{
-    uint8_t bytes[NOTE_SIZE];
-
-    for (int i = 0; i < NOTE_COPY_AT; i++)
-        bytes[i] = (uint8_t)(n->number >> (8 * (NOTE_COPY_AT - 1 - i)));
-    bytes[NOTE_COPY_AT] = (uint8_t)n->copy;
-    memcpy(bytes + NOTE_REQUEST_AT, n->request, KEEPER_REQUEST_SIZE);
-    return store_replace(NOTE_NAME, bytes, NOTE_SIZE) != 0 ? SITE_FAILED : 0;
-}
-
-/* ---- The two records. */
-
-/* The answer becomes the current record, in place of the copy that it was not worked out from. */
-static int store_answer(struct book *b, int from, const uint8_t *answer)
-{
-    int to = 1 - from;
-
-    if (store_replace(book_names[to], answer, KEEPER_RECORD_SIZE) != 0)
-        return SITE_FAILED;
-    memcpy(b->copies[to].bytes, answer, KEEPER_RECORD_SIZE);
-    b->copies[to].len = KEEPER_RECORD_SIZE;
-    b->current = to;
-    return 0;
-}
-
-/* Repeat of the last request with the record that it is for. */
-static uint32_t repeat_last(const struct book *b, uint8_t *answer)
-{
-    const struct copy *from = &b->copies[b->last.copy];
-
-    return keeper_repeat(b->page, b->page_len, from->bytes, from->len, b->last.request, KEEPER_REQUEST_SIZE, answer,
-                         KEEPER_RECORD_SIZE);
-}
-
-/* ---- Opening. */
-
-static int make_page(uint8_t *page, size_t *len)
-{
-    memset(page, 0, KEEPER_PAGE_SIZE);
-    if (store_random(page + KEEPER_KEY_AT, KEEPER_KEY_SIZE) != 0)
-        return SITE_FAILED;
-    *len = KEEPER_PAGE_SIZE;
-    return store_replace(PAGE_NAME, page, KEEPER_PAGE_SIZE) != 0 ? SITE_FAILED : 0;
-}
-
-int book_open(void)
-{
-    uint8_t page[KEEPER_PAGE_SIZE + 1], answer[KEEPER_RECORD_SIZE];
-    size_t len;
-    int there = store_read(PAGE_NAME, page, sizeof page, &len);
-    uint32_t number;
-
-    if (there < 0 || (there == 0 && make_page(page, &len) != 0))
-        return SITE_FAILED;
-    /* A page that is there is never replaced: the keeper says whether it is fresh. */
-    number = keeper_open(page, len, answer, sizeof answer);
-    if (number != KEEPER_ACCEPTED)
-        return (int)number;
-    return store_replace(book_names[0], answer, KEEPER_RECORD_SIZE) != 0 ? SITE_FAILED : 0;
-}
-
-/* ---- Starting. */
 
 /* A file that is not there counts as empty, and the keeper refuses it. */
 static int load(struct book *b)
@@ -102,33 +28,211 @@ static int load(struct book *b)
     b->current = -1;
     b->page_there = store_read(PAGE_NAME, b->page, sizeof b->page, &b->page_len);
     if (b->page_there < 0)
-        return SITE_FAILED;
-    for (int i = 0; i < 2; i++)
-        if (store_read(book_names[i], b->copies[i].bytes, sizeof b->copies[i].bytes, &b->copies[i].len) < 0)
-            return SITE_FAILED;
-    return read_note(&b->last);
+        return BOOK_FAILED;
+    for (int i = 0; i < 2; i++) {
+        struct copy *c = &b->copies[i];
+        c->there = store_read(book_names[i], c->bytes, sizeof c->bytes, &c->len);
+        if (c->there < 0)
+            return BOOK_FAILED;
+    }
+    return load_note(b);
+}
+
+/* ---- The two records. */
+
+static int has_summary(const struct copy *c, const uint8_t *summary)
+{
+    return c->len == KEEPER_RECORD_SIZE && memcmp(c->bytes + KEEPER_SUMMARY_AT, summary, KEEPER_SUMMARY_SIZE) == 0;
+}
+
+/* Repeat of a request on the record with this summary. Returns the copy that gives the answer, or -1. */
+static int repeat_on(const struct book *b, const uint8_t *summary, const uint8_t *request, uint8_t *answer)
+{
+    for (int i = 0; i < 2; i++) {
+        const struct copy *c = &b->copies[i];
+        if (has_summary(c, summary) && keeper_repeat(b->page, b->page_len, c->bytes, c->len, request,
+                                                     KEEPER_REQUEST_SIZE, answer,
+                                                     KEEPER_RECORD_SIZE) == KEEPER_ACCEPTED)
+            return i;
+    }
+    return -1;
+}
+
+/* The answer is the current record, in place of the copy that it was not worked out from. */
+static void take_answer(struct book *b, int from, const uint8_t *answer)
+{
+    struct copy *to = &b->copies[1 - from];
+
+    memcpy(to->bytes, answer, KEEPER_RECORD_SIZE);
+    to->len = KEEPER_RECORD_SIZE;
+    b->current = 1 - from;
+}
+
+static int store_current(struct book *b)
+{
+    if (store_replace(book_names[b->current], b->copies[b->current].bytes, KEEPER_RECORD_SIZE) != 0)
+        return BOOK_FAILED;
+    b->recovered = 0;
+    return 0;
+}
+
+/* ---- Starting. */
+
+static int page_stands_at(const struct book *b, const uint8_t *summary)
+{
+    return b->page_len == KEEPER_PAGE_SIZE && memcmp(b->page, summary, KEEPER_SUMMARY_SIZE) == 0;
+}
+
+static int resume(const struct book *b)
+{
+    const struct copy *c = b->copies;
+
+    switch (keeper_resume(b->page, b->page_len, c[0].bytes, c[0].len, c[1].bytes, c[1].len)) {
+    case KEEPER_RAM:
+        return 0;
+    case KEEPER_DISK:
+        return 1;
+    default:
+        return -1;
+    }
+}
+
+/* The answer that a cut took, or that was damaged. Returns the copy that it was worked out from, or -1. */
+static int recover(const struct book *b, uint8_t *answer)
+{
+    const struct note *n = &b->note;
+    int from = -1;
+
+    if (n->outcome == OUTCOME_PENDING)
+        from = repeat_on(b, n->stands, n->request, answer);
+    if (from < 0 && n->booked_there)
+        from = repeat_on(b, n->booked_on, n->booked_request, answer);
+    return from;
+}
+
+static int find_current(struct book *b)
+{
+    uint8_t answer[KEEPER_RECORD_SIZE];
+    int from;
+
+    b->current = resume(b);
+    if (b->current >= 0)
+        return 0;
+    from = recover(b, answer);
+    if (from < 0)
+        return BOOK_NO_RECORD;
+    take_answer(b, from, answer);
+    b->recovered = 1;
+    return 0;
+}
+
+static enum told tell_pending(const struct book *b)
+{
+    uint8_t answer[KEEPER_RECORD_SIZE];
+
+    if (repeat_on(b, b->note.stands, b->note.request, answer) >= 0)
+        return TOLD_BOOKED;
+    return b->current >= 0 && page_stands_at(b, b->note.stands) ? TOLD_NOT_BOOKED : CANT_BE_TOLD;
+}
+
+static enum told tell(const struct book *b)
+{
+    if (!b->note_good)
+        return CANT_BE_TOLD;
+    if (b->note.outcome == OUTCOME_PENDING)
+        return tell_pending(b);
+    if (!page_stands_at(b, b->note.stands))
+        return CANT_BE_TOLD;
+    switch (b->note.outcome) {
+    case OUTCOME_NONE_GIVEN:
+        return TOLD_NONE_GIVEN;
+    case OUTCOME_BOOKED:
+        return TOLD_BOOKED;
+    case OUTCOME_REFUSED:
+        return TOLD_NOT_BOOKED;
+    default:
+        return TOLD_SETTLED;
+    }
 }
 
 int book_start(struct book *b)
 {
-    uint8_t answer[KEEPER_RECORD_SIZE];
-    const struct copy *c = b->copies;
     int status = load(b);
 
     if (status != 0)
         return status;
-    switch (keeper_resume(b->page, b->page_len, c[0].bytes, c[0].len, c[1].bytes, c[1].len)) {
-    case KEEPER_RAM:
-        b->current = 0;
-        return 0;
-    case KEEPER_DISK:
-        b->current = 1;
-        return 0;
-    }
-    if (!b->last.there || repeat_last(b, answer) != KEEPER_ACCEPTED)
-        return SITE_NO_RECORD;
-    b->recovered = 1;
-    return store_answer(b, b->last.copy, answer);
+    status = find_current(b);
+    b->told = tell(b);
+    return status;
+}
+
+/* ---- Noting. */
+
+static int store_note(const struct note *n)
+{
+    uint8_t bytes[NOTE_SIZE];
+
+    note_write(n, bytes);
+    return store_replace(NOTE_NAME, bytes, NOTE_SIZE) != 0 ? BOOK_FAILED : 0;
+}
+
+/* The request of the note is the last one booked; its record is the one at which the page stood. */
+static void keep_as_booked(struct note *n)
+{
+    n->booked_there = 1;
+    memcpy(n->booked_request, n->request, KEEPER_REQUEST_SIZE);
+    memcpy(n->booked_on, n->stands, KEEPER_SUMMARY_SIZE);
+}
+
+static int note_pending(struct book *b, const uint8_t *request)
+{
+    struct note *n = &b->note;
+    uint64_t number = book_next_number(b);
+
+    if (n->outcome == OUTCOME_PENDING && b->told == TOLD_BOOKED)
+        keep_as_booked(n);
+    n->outcome = OUTCOME_PENDING;
+    n->refusal = 0;
+    n->number = number;
+    memcpy(n->request, request, KEEPER_REQUEST_SIZE);
+    memcpy(n->stands, b->page, KEEPER_SUMMARY_SIZE);
+    return store_note(n);
+}
+
+static int note_refused(struct book *b, uint32_t refusal)
+{
+    b->note.outcome = OUTCOME_REFUSED;
+    b->note.refusal = (uint8_t)refusal;
+    b->told = TOLD_NOT_BOOKED;
+    return store_note(&b->note);
+}
+
+static int note_booked(struct book *b)
+{
+    keep_as_booked(&b->note);
+    b->note.outcome = OUTCOME_BOOKED;
+    memcpy(b->note.stands, b->page, KEEPER_SUMMARY_SIZE);
+    b->told = TOLD_BOOKED;
+    return store_note(&b->note);
+}
+
+uint64_t book_next_number(const struct book *b)
+{
+    return b->told == TOLD_NOT_BOOKED ? b->note.number : b->note.number + 1;
+}
+
+int book_settle(struct book *b, uint64_t number)
+{
+    struct note *n = &b->note;
+
+    if (b->current < 0)
+        return BOOK_NO_RECORD;
+    memset(n, 0, sizeof *n);
+    n->outcome = OUTCOME_SETTLED;
+    n->number = number;
+    memcpy(n->stands, b->page, KEEPER_SUMMARY_SIZE);
+    b->told = TOLD_SETTLED;
+    return store_note(n);
 }
 
 /* ---- Booking. */
@@ -139,25 +243,61 @@ int book_request(struct book *b, const uint8_t *request)
     int from = b->current;
     uint32_t number;
 
-    b->last.there = 1;
-    b->last.number++;
-    b->last.copy = from;
-    memcpy(b->last.request, request, KEEPER_REQUEST_SIZE);
-    if (store_note(&b->last) != 0)
-        return SITE_FAILED;
+    if (from < 0)
+        return BOOK_NO_RECORD;
+    if (b->told == CANT_BE_TOLD)
+        return BOOK_UNTOLD;
+    if ((b->recovered && store_current(b) != 0) || note_pending(b, request) != 0)
+        return BOOK_FAILED;
     number = keeper_perform(b->page, b->page_len, b->copies[from].bytes, b->copies[from].len, request,
                             KEEPER_REQUEST_SIZE, answer, sizeof answer);
     if (number != KEEPER_ACCEPTED)
-        return (int)number;
+        return note_refused(b, number) != 0 ? BOOK_FAILED : (int)number;
+    /* Where the protected memory is what perform was lent, the page has moved by now, and this line goes. */
     if (store_replace(PAGE_NAME, b->page, KEEPER_PAGE_SIZE) != 0)
-        return SITE_FAILED;
-    return store_answer(b, from, answer);
+        return BOOK_FAILED;
+    take_answer(b, from, answer);
+    if (store_current(b) != 0)
+        return BOOK_FAILED;
+    return note_booked(b);
 }
 
-/* Repeat is accepted for the last request that moved the page, on the record that it was for, and for no other. */
-int book_last_is_booked(const struct book *b)
-{
-    uint8_t answer[KEEPER_RECORD_SIZE];
+/* ---- Opening. */
 
-    return b->last.there && repeat_last(b, answer) == KEEPER_ACCEPTED;
+static int make_page(struct book *b)
+{
+    if (b->copies[0].there || b->copies[1].there || b->note_there)
+        return BOOK_NO_RECORD;
+    memset(b->page, 0, KEEPER_PAGE_SIZE);
+    b->page_len = KEEPER_PAGE_SIZE;
+    if (store_random(b->page + KEEPER_KEY_AT, KEEPER_KEY_SIZE) != 0)
+        return BOOK_FAILED;
+    return store_replace(PAGE_NAME, b->page, KEEPER_PAGE_SIZE) != 0 ? BOOK_FAILED : 0;
+}
+
+/* The note of a request that was given on the fresh page stays. */
+static int complete(struct book *b, const uint8_t *first)
+{
+    if (resume(b) < 0) {
+        take_answer(b, 1, first);
+        if (store_current(b) != 0)
+            return BOOK_FAILED;
+    }
+    return b->note_there ? 0 : store_note(&b->note);
+}
+
+int book_open(void)
+{
+    uint8_t first[KEEPER_RECORD_SIZE];
+    struct book b;
+    int status = load(&b);
+    uint32_t number;
+
+    if (status == 0 && !b.page_there)
+        status = make_page(&b);
+    if (status != 0)
+        return status;
+    /* A page that is there is never replaced: the keeper says whether it is fresh. */
+    number = keeper_open(b.page, b.page_len, first, sizeof first);
+    return number != KEEPER_ACCEPTED ? (int)number : complete(&b, first);
 }

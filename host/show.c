@@ -14,7 +14,7 @@ const char *refusal_words(uint32_t number)
         "the record's version is not known",
         "the record's racks break the state rule",
         "the request is not well formed, or there is no such rack",
-        "the record's authenticator is not valid: it was changed, or it is another controller's",
+        "the record's authenticator is not valid: it was changed, or was made under another key",
         "the record is not current",
         "the charge would pass the capacity, or the new capacity is under what is stored",
         "more would be discharged than is stored",
@@ -55,10 +55,11 @@ static uint64_t number_at(const uint8_t *at, int width)
 
 void show_request(const uint8_t *request)
 {
-    const char *amount = grouped(number_at(request + 6, 4));
-    unsigned rack = request[4], other = request[5];
+    const char *amount = grouped(number_at(request + KEEPER_REQUEST_AMOUNT_AT, 4));
+    unsigned kind = request[KEEPER_REQUEST_KIND_AT];
+    unsigned rack = request[KEEPER_REQUEST_RACK_AT], other = request[KEEPER_REQUEST_OTHER_AT];
 
-    switch (request[3]) {
+    switch (kind) {
     case KEEPER_CAPACITY:
         printf("capacity of rack %u to %s", rack, amount);
         break;
@@ -72,7 +73,7 @@ void show_request(const uint8_t *request)
         printf("move %s from rack %u to rack %u", amount, rack, other);
         break;
     default:
-        printf("a request of kind %u", (unsigned)request[3]);
+        printf("a request of kind %u", kind);
     }
 }
 

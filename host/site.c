@@ -4,79 +4,121 @@
  */
 #define _XOPEN_SOURCE 700
 
+#include <fcntl.h>
 #include <stdio.h>
-#include <string.h>
 #include <unistd.h>
 
 #include "book.h"
-#include "request.h"
+#include "line.h"
 #include "show.h"
 #include "store.h"
 
+/* Exit statuses beside the keeper's numbers and those of book.h. */
+enum { SITE_USAGE = 64, SITE_OTHER_NUMBER = 77 };
+
 static const char help[] =
-    "usage: site [-d DIR] COMMAND\n"
+    "usage: site [-d DIR] [-n NUMBER] COMMAND\n"
     "\n"
     "    open                           begin a book: a fresh page with a random key, and the first record\n"
     "    capacity RACK AMOUNT           set what the rack can hold\n"
     "    charge RACK AMOUNT             book a charge\n"
     "    discharge RACK AMOUNT          book a discharge\n"
     "    move RACK OTHER AMOUNT         book a discharge of one rack into another\n"
-    "    view [RACK]                    show the racks\n"
-    "    status                         show what is stored, and whether the last request is booked\n"
+    "    view [RACK]                    show the racks; changes nothing\n"
+    "    status                         show what is stored, and whether the last request is booked; changes nothing\n"
+    "    settle NUMBER                  say yourself, where status can't tell, which request was booked last\n"
     "\n"
-    "DIR is where the book is kept, the present directory unless it is given. Racks are 0 to 15. Amounts are in\n"
-    "ampere-seconds, at most 100,000,000.\n"
+    "    -d DIR                         where the book is kept; the present directory unless it is given\n"
+    "    -n NUMBER                      take the request only if this is its number\n"
+    "    -h, --help; --version\n"
     "\n"
-    "Every request has a number, which the program says with its outcome. If a request has no outcome, because the\n"
-    "power was cut or the exit status is 74, 'status' says it: the request is booked if status shows a number above\n"
-    "the last one that you know of, and says that it is booked. Otherwise give it again.\n"
+    "Racks are 0 to 15. Amounts are in ampere-seconds, at most 100,000,000.\n"
+    "\n"
+    "A request's number is one above the count of those booked before it, whoever gave them; one that is not booked\n"
+    "leaves its number to the next. The program says it with the outcome. If you have no outcome, because the power\n"
+    "was cut or the exit status is 74, ask 'status' before you give the request again. If you alone give requests\n"
+    "here, yours is booked if status has its number and says that it is booked, and must not be given again. If\n"
+    "status says 'not booked', or has a number below, yours is not booked, and may be.\n"
+    "\n"
+    "Where two users share a book, the number that you see may be the other's. Give each request with -n then, and\n"
+    "the number above the last one booked: that line, given as often as you like, books at most once. It ends with 77\n"
+    "once the number is booked, by you or by the other; status shows what was asked, of the last request alone.\n"
+    "\n"
+    "If files were damaged, it may be that it can't be told whether the last request is booked. Then no request is\n"
+    "taken until you have found out, say from the meters, and have settled it: with its number if it is booked, with\n"
+    "one less if it is not.\n"
     "\n"
     "Exit status: 0 done and stored; 1 to 13 refused, with the keeper's number; 64 the command was not understood;\n"
-    "74 a file could not be read or written; 75 there is no current record here.\n";
-
-/* What the words of the command line ask for. */
-struct asked {
-    int one_rack;
-    uint32_t rack;
-    uint8_t request[KEEPER_REQUEST_SIZE];
-};
+    "74 a file could not be read or written, or the outcome not be said; 75 there is no current record here; 76 it\n"
+    "can't be told whether the last request is booked; 77 the number is not the one that is asked for.\n";
 
 /* ---- What happened, in words. */
-
-static int not_understood(void)
-{
-    fputs("usage: site [-d DIR] open | capacity RACK AMOUNT | charge RACK AMOUNT | discharge RACK AMOUNT |\n"
-          "       move RACK OTHER AMOUNT | view [RACK] | status        (site --help says more)\n",
-          stderr);
-    return SITE_USAGE;
-}
 
 static void say_refused(uint32_t number)
 {
     printf("refused with %u: %s\n", (unsigned)number, refusal_words(number));
 }
 
-static void say_request(const struct book *b)
+static void say_request(const struct note *n)
 {
-    printf("%llu (", (unsigned long long)b->last.number);
-    show_request(b->last.request);
+    printf("%llu (", (unsigned long long)n->number);
+    show_request(n->request);
     printf(")");
+}
+
+static int is_fresh(const struct book *b)
+{
+    uint8_t first[KEEPER_RECORD_SIZE];
+
+    return keeper_open(b->page, b->page_len, first, sizeof first) == KEEPER_ACCEPTED;
 }
 
 static void say_no_record(const struct book *b)
 {
-    if (b->page_there)
+    if (is_fresh(b))
+        printf("There is no current record here. The page is fresh: 'site open' gives its first record again.\n");
+    else if (b->page_there)
         printf("There is no current record here, and repeat does not give it.\n");
+    else if (b->copies[0].there || b->copies[1].there || b->note_there)
+        printf("The page is lost. The records here are of no use without it, and no other page fits them.\n");
     else
-        printf("There is no page here; 'site open' makes one.\n");
+        printf("There is no book here; 'site open' begins one.\n");
 }
 
-static void say_recovered(const struct book *b)
+static void say_untold(const struct book *b)
 {
-    printf("Recovered: request ");
-    say_request(b);
-    printf(" is booked, but its answer was lost. Repeat has given it again, and %s has it now.\n",
-           book_names[b->current]);
+    if (b->note_good) {
+        say_request(&b->note);
+        printf(": it can't be told whether it is booked\n");
+    } else {
+        printf("its note is %s: it can't be told whether it is booked\n", b->note_there ? "damaged" : "lost");
+    }
+}
+
+/* The last request's outcome, behind the word 'request'. */
+static void say_told(const struct book *b)
+{
+    switch (b->told) {
+    case TOLD_NONE_GIVEN:
+        printf("none was given since the book was opened\n");
+        return;
+    case TOLD_SETTLED:
+        printf("%llu is the last one booked; so it was settled\n", (unsigned long long)b->note.number);
+        return;
+    case TOLD_BOOKED:
+        say_request(&b->note);
+        printf(" is booked\n");
+        return;
+    case TOLD_NOT_BOOKED:
+        say_request(&b->note);
+        printf(" is not booked");
+        if (b->note.refusal != 0)
+            printf(": it was refused with %u", (unsigned)b->note.refusal);
+        printf("\n");
+        return;
+    default:
+        say_untold(b);
+    }
 }
 
 /* Finds the current record, and says what was found if it is not as it should be. */
@@ -84,25 +126,33 @@ static int start(struct book *b)
 {
     int status = book_start(b);
 
-    if (status == SITE_NO_RECORD)
+    if (status == BOOK_NO_RECORD)
         say_no_record(b);
     if (status == 0 && b->recovered)
-        say_recovered(b);
+        printf("Recovered: the current record was lost, and repeat has given it again. The next request stores it.\n");
     return status;
 }
 
 /* ---- The commands. */
 
-static int run_open(const struct asked *asked)
+static int run_open(void)
 {
     int status = book_open();
 
-    (void)asked;
     if (status == 0)
-        printf("The book is open: nothing is booked yet, and book.a has the first record.\n");
-    else if (status != SITE_FAILED)
+        printf("The book is open: nothing is booked yet.\n");
+    else if (status == BOOK_NO_RECORD)
+        printf("There is no page here, but there are records or a note: a new page would not fit them.\n");
+    else if (status != BOOK_FAILED)
         say_refused((uint32_t)status);
     return status;
+}
+
+static int not_next(const struct book *b, uint64_t number)
+{
+    printf("Not taken: the next request has the number %llu, and not %llu.\n",
+           (unsigned long long)book_next_number(b), (unsigned long long)number);
+    return SITE_OTHER_NUMBER;
 }
 
 static int run_request(const struct asked *asked)
@@ -112,11 +162,17 @@ static int run_request(const struct asked *asked)
 
     if (status != 0)
         return status;
+    if (b.told != CANT_BE_TOLD && asked->number != 0 && asked->number != book_next_number(&b))
+        return not_next(&b, asked->number);
     status = book_request(&b, asked->request);
-    if (status == SITE_FAILED)
+    if (status == BOOK_UNTOLD) {
+        printf("Not taken. The request before it: ");
+        say_untold(&b);
+    }
+    if (status == BOOK_FAILED || status == BOOK_UNTOLD)
         return status;
     printf("Request ");
-    say_request(&b);
+    say_request(&b.note);
     printf(" is ");
     if (status == 0)
         printf("booked.\n");
@@ -159,121 +215,113 @@ static void say_page(const struct book *b)
 static void say_copies(const struct book *b)
 {
     for (int i = 0; i < 2; i++) {
-        uint32_t number = keeper_view(b->page, b->page_len, b->copies[i].bytes, b->copies[i].len, 0);
+        const struct copy *c = &b->copies[i];
+        uint32_t number = keeper_view(b->page, b->page_len, c->bytes, c->len, 0);
         printf("%-8s ", book_names[i]);
-        if (number == KEEPER_ACCEPTED)
+        if (b->recovered && i == b->current)
+            printf("not current; its place is for the record that repeat has given\n");
+        else if (number == KEEPER_ACCEPTED)
             printf("current\n");
-        else if (b->copies[i].len == 0)
+        else if (!c->there)
             printf("nothing\n");
         else
             say_refused(number);
     }
 }
 
-static int run_status(const struct asked *asked)
+static int run_status(void)
 {
     struct book b;
     int status = start(&b);
 
-    (void)asked;
-    if (status == SITE_FAILED || !b.page_there)
+    if (status == BOOK_FAILED || !b.page_there)
         return status;
     say_page(&b);
     say_copies(&b);
     printf("request  ");
-    if (b.last.there) {
-        say_request(&b);
-        printf(" is %s\n", book_last_is_booked(&b) ? "booked" : "not booked");
-    } else {
-        printf("none was given\n");
+    say_told(&b);
+    return b.told == CANT_BE_TOLD ? BOOK_UNTOLD : status;
+}
+
+/* Of a request whose note is there only its own number can be meant, or that of the one before it. */
+static int is_meant(const struct book *b, uint64_t number)
+{
+    return !b->note_good || b->note.outcome != OUTCOME_PENDING || number == b->note.number ||
+           number == b->note.number - 1;
+}
+
+static int run_settle(const struct asked *asked)
+{
+    struct book b;
+    int status = start(&b);
+
+    if (status != 0)
+        return status;
+    if (b.told != CANT_BE_TOLD) {
+        printf("There is nothing to settle. Request ");
+        say_told(&b);
+        return 0;
     }
+    if (!is_meant(&b, asked->number)) {
+        printf("Not settled. The last request: ");
+        say_untold(&b);
+        return SITE_OTHER_NUMBER;
+    }
+    status = book_settle(&b, asked->number);
+    if (status == 0)
+        printf("Settled: the next request has the number %llu.\n", (unsigned long long)book_next_number(&b));
     return status;
 }
 
-/* ---- The command line. */
-
-/* A number in digits alone, at most `most`. */
-static int read_number(const char *text, uint32_t most, uint32_t *n)
+static int run(const struct asked *asked)
 {
-    uint64_t value = 0;
+    enum turn turn = asked->command == COMMAND_VIEW || asked->command == COMMAND_STATUS ? TO_READ : TO_WRITE;
 
-    if (*text == '\0')
-        return -1;
-    for (; *text != '\0'; text++) {
-        if (*text < '0' || *text > '9')
-            return -1;
-        value = value * 10 + (uint64_t)(*text - '0');
-        if (value > most)
-            return -1;
+    if (store_enter(asked->directory, turn) != 0)
+        return BOOK_FAILED;
+    switch (asked->command) {
+    case COMMAND_OPEN:
+        return run_open();
+    case COMMAND_REQUEST:
+        return run_request(asked);
+    case COMMAND_VIEW:
+        return run_view(asked);
+    case COMMAND_STATUS:
+        return run_status();
+    default:
+        return run_settle(asked);
     }
-    *n = (uint32_t)value;
+}
+
+/*
+ * A standard stream that the caller has closed is held, or a file would be opened in its place and written into by what
+ * is said. It is held so that saying something fails.
+ */
+static int hold_streams(void)
+{
+    for (int stream = 0; stream < 3; stream++)
+        if (fcntl(stream, F_GETFD) < 0 && open("/dev/null", stream == 0 ? O_WRONLY : O_RDONLY) != stream)
+            return -1;
     return 0;
-}
-
-static const struct command {
-    const char *name;
-    int least, most; /* words behind the name */
-    int kind;        /* of the request, or 0 */
-    int (*run)(const struct asked *asked);
-} commands[] = {
-    {"open", 0, 0, 0, run_open},
-    {"capacity", 2, 2, KEEPER_CAPACITY, run_request},
-    {"charge", 2, 2, KEEPER_CHARGE, run_request},
-    {"discharge", 2, 2, KEEPER_DISCHARGE, run_request},
-    {"move", 3, 3, KEEPER_MOVE, run_request},
-    {"view", 0, 1, 0, run_view},
-    {"status", 0, 0, 0, run_status},
-};
-
-static const struct command *command_named(const char *name, int words)
-{
-    for (size_t i = 0; i < sizeof commands / sizeof *commands; i++)
-        if (strcmp(commands[i].name, name) == 0 && commands[i].least <= words && words <= commands[i].most)
-            return &commands[i];
-    return NULL;
-}
-
-/* What fits its place in the request's bytes is left to the keeper to judge. */
-static int read_request(const struct command *command, char **words, uint8_t *request)
-{
-    uint32_t rack, other = 0, amount;
-
-    if (read_number(words[0], UINT8_MAX, &rack) != 0 || read_number(words[command->most - 1], UINT32_MAX, &amount) != 0)
-        return -1;
-    if (command->kind == KEEPER_MOVE && read_number(words[1], UINT8_MAX, &other) != 0)
-        return -1;
-    make_request(request, command->kind, (uint8_t)rack, (uint8_t)other, amount);
-    return 0;
-}
-
-static int read_words(const struct command *command, int count, char **words, struct asked *asked)
-{
-    asked->one_rack = command->kind == 0 && count == 1;
-    if (asked->one_rack)
-        return read_number(words[0], UINT32_MAX, &asked->rack);
-    return command->kind != 0 ? read_request(command, words, asked->request) : 0;
 }
 
 int main(int argc, char **argv)
 {
-    const char *directory = ".";
-    const struct command *command;
     struct asked asked;
-    int option, status;
+    int status = 0;
 
-    if (argc == 2 && strcmp(argv[1], "--help") == 0)
-        return fputs(help, stdout) < 0 || fflush(stdout) != 0 ? SITE_FAILED : 0;
-    while ((option = getopt(argc, argv, "d:")) != -1) {
-        if (option != 'd')
-            return not_understood();
-        directory = optarg;
-    }
-    command = optind < argc ? command_named(argv[optind], argc - optind - 1) : NULL;
-    if (command == NULL || read_words(command, argc - optind - 1, argv + optind + 1, &asked) != 0)
-        return not_understood();
-    status = store_enter(directory) != 0 ? SITE_FAILED : command->run(&asked);
+    if (hold_streams() != 0)
+        return BOOK_FAILED;
+    if (read_line(argc, argv, &asked) != 0)
+        return SITE_USAGE;
+    if (asked.command == COMMAND_HELP)
+        fputs(help, stdout);
+    else if (asked.command == COMMAND_VERSION)
+        printf("site %d.%d.%d\n", KEEPER_VERSION / 10000, KEEPER_VERSION / 100 % 100, KEEPER_VERSION % 100);
+    else
+        status = run(&asked);
     /* An outcome that could not be said is not known to anybody: status has to tell it. */
     if (fflush(stdout) != 0 || ferror(stdout))
-        return SITE_FAILED;
+        return BOOK_FAILED;
     return status;
 }

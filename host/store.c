@@ -7,10 +7,11 @@
 #include <fcntl.h>
 #include <stdio.h>
 #include <string.h>
+#include <sys/random.h>
 #include <sys/stat.h>
 #include <unistd.h>
 
-/* The pages hold a key, so the files are for their owner alone. */
+/* The page holds a key, so the files are for their owner alone. */
 #define OWNER (S_IRUSR | S_IWUSR)
 
 static int directory = -1;
@@ -21,30 +22,35 @@ static int failed(const char *name)
     return -1;
 }
 
-int store_enter(const char *path)
-{
-    int lock;
+/* ---- Plain files. */
 
-    if (chdir(path) != 0)
-        return failed(path);
-    directory = open(".", O_RDONLY | O_DIRECTORY);
-    if (directory < 0)
-        return failed(path);
-    /* Two programs on one book would each move the page that it had read. The lock goes when the program ends. */
-    lock = open("lock", O_RDWR | O_CREAT, OWNER);
-    if (lock < 0 || lockf(lock, F_LOCK, 0) != 0)
-        return failed("lock");
-    /* A name may have been given by a program that was killed before the disk had it: nothing may rest on it yet. */
-    return fsync(directory) != 0 ? failed(path) : 0;
+static int not_plain(const char *name, int file)
+{
+    fprintf(stderr, "site: %s: this is not a plain file\n", name);
+    close(file);
+    return -1;
+}
+
+/* Returns a descriptor, or -1 with a message and -2 without one if there is no such file. A pipe is not waited for. */
+static int open_plain(const char *name, int flags)
+{
+    int file = open(name, flags | O_NONBLOCK | O_NOCTTY, OWNER);
+    struct stat s;
+
+    if (file < 0)
+        return errno == ENOENT ? -2 : failed(name);
+    if (fstat(file, &s) != 0 || !S_ISREG(s.st_mode))
+        return not_plain(name, file);
+    return file;
 }
 
 int store_read(const char *name, uint8_t *bytes, size_t room, size_t *len)
 {
-    int file = open(name, O_RDONLY);
+    int file = open_plain(name, O_RDONLY);
 
     *len = 0;
     if (file < 0)
-        return errno == ENOENT ? 0 : failed(name);
+        return file == -2 ? 0 : -1;
     while (*len < room) {
         ssize_t n = read(file, bytes + *len, room - *len);
         if (n < 0 && errno != EINTR) {
@@ -81,9 +87,9 @@ int store_replace(const char *name, const uint8_t *bytes, size_t len)
     int file;
 
     snprintf(fresh, sizeof fresh, "%s.new", name);
-    file = open(fresh, O_WRONLY | O_CREAT | O_TRUNC, OWNER);
+    file = open_plain(fresh, O_WRONLY | O_CREAT | O_TRUNC);
     if (file < 0)
-        return failed(fresh);
+        return -1;
     if (write_whole(file, bytes, len) != 0 || fsync(file) != 0) {
         failed(fresh);
         close(file);
@@ -96,12 +102,66 @@ int store_replace(const char *name, const uint8_t *bytes, size_t len)
     return 0;
 }
 
+/* ---- A turn: two programs on one book would each move the page that it had read. */
+
+/* The lock goes when the program ends. Returns -2 for a reader who finds no lock file and can't make one. */
+static int open_lock(enum turn turn)
+{
+    int lock = open_plain("lock", turn == TO_READ ? O_RDONLY : O_RDWR | O_CREAT);
+
+    if (lock != -2)
+        return lock;
+    lock = open("lock", O_RDWR | O_CREAT, OWNER);
+    if (lock < 0 && turn == TO_READ && (errno == EROFS || errno == EACCES))
+        return -2;
+    return lock < 0 ? failed("lock") : lock;
+}
+
+static int wait_for_turn(int lock, enum turn turn)
+{
+    struct flock whole = {.l_type = turn == TO_READ ? F_RDLCK : F_WRLCK, .l_whence = SEEK_SET};
+
+    if (fcntl(lock, F_SETLK, &whole) == 0)
+        return 0;
+    if (errno != EACCES && errno != EAGAIN)
+        return failed("lock");
+    fprintf(stderr, "site: another program is at work on this book; waiting for it\n");
+    while (fcntl(lock, F_SETLKW, &whole) != 0)
+        if (errno != EINTR)
+            return failed("lock");
+    return 0;
+}
+
+int store_enter(const char *path, enum turn turn)
+{
+    int lock;
+
+    if (chdir(path) != 0)
+        return failed(path);
+    directory = open(".", O_RDONLY | O_DIRECTORY);
+    if (directory < 0)
+        return failed(path);
+    lock = open_lock(turn);
+    if (lock == -1 || (lock >= 0 && wait_for_turn(lock, turn) != 0))
+        return -1;
+    /* A name may have been given by a program that was killed before the disk had it: nothing may rest on it yet. */
+    if (fsync(directory) != 0 && !(turn == TO_READ && (errno == EROFS || errno == EINVAL)))
+        return failed(path);
+    return 0;
+}
+
+/* ---- Keys. */
+
 int store_random(uint8_t *bytes, size_t len)
 {
-    size_t got;
+    size_t got = 0;
 
-    if (store_read("/dev/urandom", bytes, len, &got) == 1 && got == len)
-        return 0;
-    fprintf(stderr, "site: /dev/urandom gives no key\n");
-    return -1;
+    while (got < len) {
+        ssize_t n = getrandom(bytes + got, len - got, 0);
+        if (n > 0)
+            got += (size_t)n;
+        else if (errno != EINTR)
+            return failed("getrandom");
+    }
+    return 0;
 }

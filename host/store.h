@@ -5,15 +5,18 @@
 #include <stddef.h>
 #include <stdint.h>
 
+/* Those that only read may be at work together, and on a file system that can't be written. */
+enum turn { TO_READ, TO_WRITE };
+
 /*
- * Goes into the directory, waits until no other program is at work in it, and brings what such a program may have left
+ * Goes into the directory, waits for its turn, and says so if it has to; then brings what another program may have left
  * half done to the disk. Every other function works on files of this directory. Returns 0, or -1 with a message.
  */
-int store_enter(const char *directory);
+int store_enter(const char *directory, enum turn turn);
 
 /*
  * Reads the file's bytes, at most room, and puts how many there are in len. Returns 1, 0 if there is no such file (len
- * is then 0), or -1 with a message.
+ * is then 0), or -1 with a message; a directory or a pipe in a file's place is such an error.
  */
 int store_read(const char *name, uint8_t *bytes, size_t room, size_t *len);
 

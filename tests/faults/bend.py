@@ -1,5 +1,5 @@
 #!/usr/bin/env python3
-"""Bends a source: a file of bends/ says in which file which line becomes which other one.
+"""Bends a source: a file of bends/ says in which file which line becomes which other one. Its line `part:` is for run.
 
     tests/faults/bend.py BEND ROOT    ROOT has the sources that are bent
 """

@@ -1,12 +1,14 @@
 #!/usr/bin/env python3
 """Cuts the power of the site program at every operation of every command, and holds what is left to a model.
 
-    tests/faults/faults.py SITE SHIM    the built site program, and shim.c as a shared object
+    tests/faults/faults.py SITE SHIM [PART..]    the built site program, and shim.c as a shared object; a part is one
+                                                 of plain, damages, retries and cuts, and all are played unless given
 
 After each cut the program is started again (status, then view): the book is that of before or that of after and
 nothing else; it is that of after if the program had said so; status tells which of the two it is; and the same command,
-given again, is booked on it. The same holds if a second cut comes in the restart after the first. Ends at the first
-failure with a sentence.
+given again, is booked on it. The same holds if a second cut comes in the restart after the first. A line with -n is
+booked once, however often it is cut and given again. Then files are damaged (damages.py). Ends at the first failure
+with a sentence.
 """
 
 import os
@@ -17,18 +19,19 @@ import tempfile
 
 sys.dont_write_bytecode = True
 sys.path.insert(0, str(pathlib.Path(__file__).resolve().parent))
-from model import Book
-from plain import check_exits, check_locking, check_unseen
-from program import (AT_ITS_END, FAILED, KILLED, NO_RECORD, Failure, check_book, content, copy, expect, names_held,
-                     page_of, run, says_booked, setting, status_of)
-from scenarios import scenarios
+from damages import check_damages
+from model import CAPACITY, Book
+from plain import check_plain
+from program import (AT_ITS_END, FAILED, KILLED, NO_RECORD, OTHER_NUMBER, UNTOLD, Failure, check_stored, check_view,
+                     content, copy, expect, names_held, page_of, run, says_booked, setting, status_of)
+from scenarios import scenarios, situations
 
 STOPS = ["before", "torn", "after", "lost"]
 GOES_ON = ["fail", "short", "signal"]
 OF_WRITES_ALONE = ["torn", "short", "signal"]
 
-# The operations of a command that changes nothing: the lock, and an fsync for what others may have left.
-RESTING = 2
+# The operations of a status: an fsync for what others may have left. It changes nothing.
+RESTING = 1
 
 
 def check_end(scenario, done, way):
@@ -46,31 +49,35 @@ def check_end(scenario, done, way):
 
 def check_after(scenario, folder, told):
     """The restart after a cut, and the same command again."""
-    number, is_booked = status_of(folder)
+    said = status_of(folder)
     summary, _ = page_of(folder)
-    left = [b for b in scenario.possible() if (b.summary, b.number, b.booked) == (summary, number, is_booked)]
-    said = f"{number}, {'booked' if is_booked else 'not booked'}"
+    left = [b for b in scenario.possible() if b.summary == summary and b.told() == said]
     expect(left, f"page and status do not fit the book of before or that of after: status says {said}")
     book = left[0]
     expect(not told or book == scenario.from_book(scenario.before), "a request that was said to be booked is lost")
-    check_book(folder, book)
+    check_view(folder, book)
     check_end(scenario, run(folder, scenario.words), "")
     book = scenario.from_book(book)
-    expect(status_of(folder) == (book.number, book.booked), "status does not tell of the command given again")
-    check_book(folder, book)
+    expect(status_of(folder) == book.told(), "status does not tell of the command given again")
+    check_view(folder, book)
+    if scenario.asked():
+        check_stored(folder, book)
 
 
 def check_after_open(scenario, folder, told):
     """The same for open: what is there is completed by another open, and a page that is there is not replaced."""
     setting.restarts += 1
     status = run(folder, ["status"], AT_ITS_END)
-    expect(status.exit in ([0] if told else [0, NO_RECORD]), f"status ends with {status.exit}: {status.said}")
+    ends = [0] if told else [0, NO_RECORD, UNTOLD]
+    expect(status.exit in ends, f"status ends with {status.exit}: {status.said}")
     page = folder / "book" / "page"
     was = page.read_bytes() if page.exists() else None
     again = run(folder, scenario.words)
     expect(again.exit == 0, f"open, given again, ends with {again.exit}: {again.said}")
     expect(was is None or page.read_bytes() == was, "open has replaced a page")
-    check_book(folder, Book())
+    expect(status_of(folder) == Book().told(), "status tells of a request that was not given")
+    check_view(folder, Book())
+    check_stored(folder, Book())
     expect(run(folder, ["capacity", "3", "5"]).exit == 0, "nothing can be booked on the open book")
 
 
@@ -116,7 +123,8 @@ def play(scenario):
 def second_cuts(scenario, first, told):
     """Cuts in the restart, where that has something to recover or where a name is not on the disk yet."""
     restart = run(copy(first), ["status"])
-    if len(restart.operations) == RESTING and not names_held(first):
+    expect(len(restart.operations) <= RESTING or scenario.words == ["open"], "status writes")
+    if not names_held(first):
         return 0
     count = 0
     for at, way, where in cuts(restart.operations):
@@ -133,27 +141,53 @@ def second_cuts(scenario, first, told):
     return count
 
 
-def main():
-    check_unseen()
-    check_locking()
+def check_retries():
+    """A line with -n, cut and given again: it is booked once."""
+    count = 0
+    for where, (before, book) in situations().items():
+        words = ["-n", str(book.count + 1), "capacity", "3", "72001"]
+        after = book.given(CAPACITY, 3, 0, 72001, 0)
+        for at, way, place in cuts(run(copy(before), words).operations):
+            count += 1
+            folder = copy(before)
+            run(folder, words, at, way)
+            try:
+                ends = [run(folder, words).exit for _ in range(2)]
+                expect(ends in ([0, OTHER_NUMBER], [OTHER_NUMBER] * 2), f"given again it ends with {ends}")
+                expect(page_of(folder)[0] == after.summary, "it is not booked once")
+            except Failure as failure:
+                raise Failure(f"a line with -n, {where}: {place}: {failure}") from None
+            shutil.rmtree(folder)
+    yield f"{count} cuts of a line with -n: it is booked once"
+
+
+def play_all():
     commands = {}
     for scenario in scenarios():
         sums = commands.setdefault(scenario.words[0], [0, 0, 0, 0])
         for i, n in enumerate((1, *play(scenario))):
             sums[i] += n
     for name, sums in [*commands.items(), ("in all", [sum(column) for column in zip(*commands.values())])]:
-        print("faults: {:9} {:2} situations, {:3} operations, {:4} cuts, {:4} second cuts".format(name, *sums))
-    print(f"faults: {check_exits()} commands that cannot be carried out end as they should, and change nothing")
+        yield "{:9} {:2} situations, {:3} operations, {:4} cuts, {:4} second cuts".format(name, *sums)
+
+
+PARTS = {"plain": check_plain, "damages": check_damages, "retries": check_retries, "cuts": play_all}
+
+
+def main(names):
+    for name in names or PARTS:
+        for line in PARTS[name]():
+            print(f"faults: {line}", flush=True)
     print(f"faults: {setting.restarts} restarts, {setting.runs} runs: nothing is lost, and nothing is booked twice")
 
 
 if __name__ == "__main__":
-    if len(sys.argv) != 3:
+    if len(sys.argv) < 3 or not set(sys.argv[3:]) <= set(PARTS):
         sys.exit(__doc__)
-    setting.site, setting.shim = (str(pathlib.Path(word).resolve()) for word in sys.argv[1:])
+    setting.site, setting.shim = (str(pathlib.Path(word).resolve()) for word in sys.argv[1:3])
     # In memory where that is to be had: no disk is needed, since the shim says what a disk would have kept.
     with tempfile.TemporaryDirectory(dir="/dev/shm" if os.path.isdir("/dev/shm") else None) as setting.top:
         try:
-            main()
+            main(sys.argv[3:])
         except Failure as failure:
             sys.exit(f"faults: FAILED: {failure}")

@@ -18,19 +18,40 @@ def request_bytes(kind, rack, other, amount):
     return struct.pack(">HBBBBI", 8, 1, kind, rack, other, amount)
 
 
+def words_of(kind, rack, other, amount):
+    """What a request asks, as the site program says it."""
+    if kind == CAPACITY:
+        return f"capacity of rack {rack} to {amount:,}"
+    if kind == MOVE:
+        return f"move {amount:,} from rack {rack} to rack {other}"
+    return f"{'charge' if kind == CHARGE else 'discharge'} rack {rack} by {amount:,}"
+
+
 @dataclasses.dataclass(frozen=True)
 class Book:
-    """The racks as (capacity, stored, taken in, given out), the summary, and the last request's number and outcome."""
+    """The racks as (capacity, stored, taken in, given out), the summary, how many requests are booked, and of the last
+    one given its number, whether it is booked, and what it asks."""
 
     racks: tuple = ((0, 0, 0, 0),) * RACKS
     summary: bytes = bytes(32)
+    count: int = 0
     number: int = 0
     booked: bool = False
+    asked: str = ""
+
+    def told(self):
+        """What status says of the last request given."""
+        return self.number, self.booked, self.asked
+
+    def noted(self, kind, rack, other, amount):
+        """The book when a request is given and not booked."""
+        return dataclasses.replace(self, number=self.count + 1, booked=False, asked=words_of(kind, rack, other, amount))
 
     def given(self, kind, rack, other, amount, refused):
         """The book after a request that is known to be refused or not."""
+        noted = self.noted(kind, rack, other, amount)
         if refused:
-            return dataclasses.replace(self, number=self.number + 1, booked=False)
+            return noted
         racks = list(self.racks)
         capacity, stored, taken, given = racks[rack]
         if kind == CAPACITY:
@@ -43,7 +64,7 @@ class Book:
             capacity, stored, taken, given = racks[other]
             racks[other] = capacity, stored + amount, taken + amount, given
         summary = sha256(b"\2" + self.summary + request_bytes(kind, rack, other, amount))
-        return Book(tuple(racks), summary, self.number + 1, True)
+        return Book(tuple(racks), summary, noted.number, noted.number, True, noted.asked)
 
     def record(self, key):
         state = b"".join(struct.pack(">IIQQ", *rack) for rack in self.racks)

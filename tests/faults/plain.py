@@ -1,14 +1,18 @@
-"""The site program without cuts: how it ends, that it waits for its turn, and that the shim sees all that it does."""
+"""The site program without cuts: how it ends, what it says and changes, and that the shim sees all that it does."""
 
 import fcntl
 import os
+import pathlib
+import re
 import subprocess
 import time
 
 from model import Book
-from program import (FAILED, NO_RECORD, USAGE, check_book, copy, expect, new_folder, run, says_booked, setting,
-                     status_of, table_of)
-from scenarios import KINDS, booked, noted, open_book
+from program import (FAILED, NO_RECORD, OTHER_NUMBER, UNTOLD, USAGE, check_stored, check_view, content, copy, expect,
+                     new_folder, run, says_booked, setting, status_of, table_of, told_by)
+from scenarios import KINDS, answer_stored, asked_by, booked, open_book, pending
+
+HEADER = pathlib.Path(__file__).resolve().parents[2] / "host" / "keeper.h"
 
 # Functions that change files past the shim; the site program may use none of them.
 UNSEEN = """creat openat fopen freopen fdopen pwrite writev pwritev truncate ftruncate link symlink linkat mkdir rmdir
@@ -16,9 +20,15 @@ remove renameat renameat2 unlinkat mmap syscall sendfile copy_file_range posix_f
 open64 fopen64 creat64 pwrite64 truncate64 ftruncate64 mkstemp tmpfile system popen fork vfork execve posix_spawn
 """.split()
 
-NOT_UNDERSTOOD = ["", "fly", "-x view", "charge 3", "charge 3 x", "charge -1 5", "charge 256 5", "charge 3 4294967296",
-                  "charge 3 0x10", "charge 3 5 7", "move 1 2", "move 3 256 1", "view x", "view 1 2", "open 3",
-                  "status 3"]
+# A line, and the word that the message has to name.
+NOT_UNDERSTOOD = {"": "''", "fly": "'fly'", "-x view": "'-x'", "--colour view": "'--colour'", "charge 3": "'charge'",
+                  "charge 3 x": "'x'", "charge -1 5": "'-1'", "charge 3 -5": "'-5'", "charge 256 5": "'256'",
+                  "charge 3 4294967296": "'4294967296'", "charge 3 9999999999999999999": "'9999999999999999999'",
+                  "charge 3 0x10": "'0x10'", "charge 3 5 7": "'charge'", "move 1 2": "'move'", "move 3 256 1": "'256'",
+                  "view x": "'x'", "view 1 2": "'view'", "open 3": "'open'", "status 3": "'status'",
+                  "settle": "'settle'", "settle -1": "'-1'", "-n 0 charge 3 1": "'0'", "-n x charge 3 1": "'x'",
+                  "-n 18446744073709551616 charge 3 1": "'18446744073709551616'", "-n 3 view": "'-n'",
+                  "view -n": "'-n'", "-d": "'-d'"}
 
 # On racks 3 and 5, with 70,000 of 72,000 and 10,000 of 50,000.
 REFUSED = {"charge 3 0": 6, "charge 16 1": 6, "capacity 3 100000001": 6, "charge 255 4294967295": 6, "move 3 3 1": 6,
@@ -26,48 +36,197 @@ REFUSED = {"charge 3 0": 6, "charge 16 1": 6, "capacity 3 100000001": 6, "charge
            "discharge 3 70001": 10, "move 5 6 10001": 9, "view 16": 6, "open": 13}
 
 
-def check_refused(folder, book):
+def two_racks():
+    lines = "capacity 3 72000", "capacity 5 50000", "charge 3 70000", "charge 5 10000"
+    return booked(open_book(), Book(), *lines)
+
+
+def plainly(folder, words, **streams):
+    """The program without the shim, and with these streams."""
+    return subprocess.run([setting.site, *words], cwd=folder / "book", text=True, timeout=60, **streams)
+
+
+# ---- Words that are not understood, refusals, and nothing there.
+
+
+def check_not_understood():
+    folder, _ = two_racks()
+    was = content(folder)
+    for line, word in NOT_UNDERSTOOD.items():
+        done = plainly(folder, line.split(), capture_output=True)
+        expect(done.returncode == USAGE, f"'{line}' is not answered by {USAGE}")
+        expect(word in done.stderr, f"'{line}': the message does not name {word}: {done.stderr}")
+    expect(content(folder) == was, "a command that is not understood has changed a file")
+    return len(NOT_UNDERSTOOD)
+
+
+def check_refused():
+    folder, book = two_racks()
     for line, number in REFUSED.items():
         done = run(folder, line.split())
         expect(done.exit == number and f"refused with {number}: " in done.said, f"'{line}' ends with {done.exit}")
-        book = noted(book) if line.split()[0] in KINDS else book
-        expect(status_of(folder) == (book.number, book.booked), f"'{line}' has changed what status says")
-        check_book(folder, book)
+        book = book.noted(*asked_by(line.split())) if line.split()[0] in KINDS else book
+        expect(status_of(folder) == book.told(), f"'{line}' has changed what status says")
+        check_view(folder, book)
+        check_stored(folder, book)
+    return len(REFUSED)
 
 
-def check_exits():
-    """What is not understood, refused or not there, by exit status; none of it changes the book."""
-    lines = "capacity 3 72000", "capacity 5 50000", "charge 3 70000", "charge 5 10000"
-    folder, book = booked(open_book(), Book(), *lines)
-    empty = new_folder()
-    for line in NOT_UNDERSTOOD:
-        expect(run(folder, line.split()).exit == USAGE, f"'{line}' is not answered by {USAGE}")
-    check_refused(folder, book)
-    for line in "view", "status", "charge 3 1":
+def check_nothing_there():
+    folder, empty = two_racks()[0], new_folder()
+    for line in "view", "status", "charge 3 1", "settle 1":
         expect(run(empty, line.split()).exit == NO_RECORD, f"'{line}' is not answered by {NO_RECORD} where nothing is")
-    for name, size in ("page", 63), ("book.a", 450):
-        other = copy(folder)
-        os.truncate(other / "book" / name, size)
-        expect(run(other, ["charge", "3", "1"]).exit == NO_RECORD, f"a {name} of {size} bytes is taken")
     expect(run(empty, ["-d", "nowhere", "view"]).exit == FAILED, f"a directory that is not there is not {FAILED}")
     expect(run(empty, ["-d", str(folder / "book"), "view"]).exit == 0, "another directory is not looked at")
-    expect(run(empty, ["--help"]).exit == 0, "--help is not answered")
-    return len(NOT_UNDERSTOOD) + len(REFUSED) + 8
+    for line in "-h", "--help":
+        expect("usage: " in run(empty, [line]).said, f"{line} is not answered")
+    packed = int(re.search(r"^#define KEEPER_VERSION (\d+)$", HEADER.read_text(), re.M)[1])
+    version = f"site {packed // 10000}.{packed // 100 % 100}.{packed % 100}\n"
+    expect(run(empty, ["--version"]).said == version, "--version is not the header's")
+    return 9
+
+
+# ---- What books twice if the program tells an untruth.
+
+
+def check_untold():
+    """A request that is booked, and whose outcome nobody was told, as the older copy is damaged."""
+    folder, book = booked(open_book(), Book(), "capacity 3 1000", "charge 3 100")
+    with open("/dev/full", "w", encoding="utf-8") as full:
+        done = plainly(folder, ["charge", "3", "200"], stdout=full)
+    expect(done.returncode == FAILED, "an outcome that could not be said does not end with a failure")
+    book = book.given(*asked_by(["charge", "3", "200"]), 0)
+    for file in (folder / "book").glob("book.?"):
+        if file.read_bytes() != book.record((folder / "book" / "page").read_bytes()[32:]):
+            file.write_bytes(b"\0" + file.read_bytes()[1:])
+    expect(status_of(folder) == book.told(), "status does not say that a booked request is booked")
+    return 1
+
+
+def check_cut_note():
+    """A note that is cut short is no sign that no request was given."""
+    folder, _ = two_racks()
+    note = folder / "book" / "request"
+    note.write_bytes(note.read_bytes()[: note.stat().st_size // 2])
+    status = run(folder, ["status"])
+    expect(status.exit == UNTOLD and "its note is damaged" in status.said, f"status says {status.said}")
+    return 1
+
+
+def check_lost_page():
+    """No page is made where there are records, or a note."""
+    for kept in ["book.a"], ["book.b"], ["request"], ["book.a", "book.b", "request"]:
+        folder, _ = two_racks()
+        for file in (folder / "book").iterdir():
+            if file.name not in kept:
+                file.unlink()
+        was = content(folder)
+        expect(run(folder, ["open"]).exit == NO_RECORD, f"a page is made where {kept} is")
+        (folder / "book" / "lock").unlink()
+        expect(content(folder) == was, f"open without a page changes a file where {kept} is")
+    return 4
+
+
+def check_open_again():
+    """Open on a fresh page completes what is missing, and leaves the note of a request that was given on it."""
+    folder, book = pending(open_book(), Book(), "capacity 3 72000")
+    (folder / "book" / "book.a").unlink()
+    expect(run(folder, ["open"]).exit == 0, "a fresh page is not opened again")
+    expect(status_of(folder) == book.told(), "open has changed what status says of a request")
+    check_stored(folder, book)
+    return 1
+
+
+def check_settling():
+    """What can't be told is settled by its number or by the one below, and the book goes on behind that."""
+    for settled in 5, 4:
+        folder, book = answer_stored(*two_racks(), "charge 5 600")
+        older = "book.b" if (folder / "book" / "book.b").read_bytes() != book.record(
+            (folder / "book" / "page").read_bytes()[32:]) else "book.a"
+        (folder / "book" / older).unlink()
+        was = content(folder)
+        for number in 3, 6, 0:
+            expect(run(folder, ["settle", str(number)]).exit == OTHER_NUMBER, f"{number} is settled where 5 is pending")
+        expect(content(folder) == was, "what is not settled has changed a file")
+        expect(run(folder, ["settle", str(settled)]).exit == 0, f"{settled} can't be settled")
+        status = run(folder, ["status"])
+        expect(status.exit == 0 and told_by(status.said) is None, "what is settled is told as if it were known")
+        expect(f"request  {settled} is the last one booked; so it was settled" in status.said, f"it says {status.said}")
+        done = run(folder, ["charge", "5", "1"])
+        expect(f"Request {settled + 1} " in done.said and says_booked(done.said), "the count does not go on")
+        expect(run(folder, ["settle", "1"]).exit == 0, "where it can be told, settle does not end well")
+        expect(f"Request {settled + 2} " in run(folder, ["charge", "5", "1"]).said, "settle has changed what is told")
+    return 14
+
+
+# ---- Streams, file systems, and files that are none.
+
+
+def check_streams():
+    """A standard stream that is closed takes nothing, and no file takes what was to be said."""
+    closings = "0>&-", "1>&-", "2>&-", "0>&- 1>&-", "1>&- 2>&-", "0>&- 2>&-", "0>&- 1>&- 2>&-"
+    for closing in closings:
+        for line in "status", "charge 5 600", "charge 3 2001", "fly":
+            folder, _ = two_racks()
+            other = copy(folder)
+            expected = plainly(other, line.split(), capture_output=True).returncode
+            words = ["/bin/sh", "-c", f'"$0" "$@" {closing}', setting.site, *line.split()]
+            done = subprocess.run(words, cwd=folder / "book", capture_output=True, timeout=60)
+            wanted = FAILED if "1>&-" in closing and line != "fly" else expected
+            expect(done.returncode == wanted, f"'{line}' ends with {done.returncode} after {closing}")
+            expect(content(folder) == content(other), f"'{line}' leaves other files after {closing}")
+    return 4 * len(closings)
+
+
+def check_read_only():
+    """View and status on a file system that can't be written, with an answer to recover; and a request there."""
+    folder, book = answer_stored(*two_racks(), "charge 5 600")
+    (folder / "book" / "book.a").rename(folder / "book" / "kept")
+    for there in True, False:
+        if not there:
+            (folder / "book" / "lock").unlink()
+        was = content(folder)
+        for line, end in ("view", 0), ("view 5", 0), ("status", UNTOLD), ("charge 5 1", FAILED):
+            done = run(folder, line.split(), way="readonly")
+            expect(done.exit == end, f"'{line}' ends with {done.exit} where nothing can be written: {done.said}")
+        expect(content(folder) == was, "a file is changed where nothing can be written")
+    check_view(folder, book)
+    return 8
+
+
+def check_odd_files():
+    """A pipe or a directory in place of a file is an error, and nobody waits for it."""
+    names = "page", "book.a", "book.b", "request", "lock", "request.new"
+    for name in names:
+        for make in os.mkfifo, os.mkdir:
+            folder, _ = two_racks()
+            path = folder / "book" / name
+            path.unlink(missing_ok=True)
+            make(path)
+            for line in ["charge 5 1"] if name == "request.new" else ["status", "view", "charge 5 1", "open"]:
+                expect(run(folder, line.split()).exit == FAILED, f"'{line}' takes a {make.__name__} for {name}")
+    return 2 * (4 * 5 + 1)
 
 
 def check_locking():
-    """A program waits while another is at work in the directory, which is this one here."""
+    """A program waits while another is at work in the directory, which is this one here, and says so; readers don't
+    wait for each other."""
     folder = open_book()
     run(folder, ["capacity", "3", "1000"])
     with open(folder / "book" / "lock", "r+b") as lock:
         fcntl.lockf(lock, fcntl.LOCK_EX)
-        words = [setting.site, "charge", "3", "1"]
-        waiting = subprocess.Popen(words, cwd=folder / "book", stdout=subprocess.PIPE, text=True)
+        words, streams = [setting.site, "charge", "3", "1"], {"stdout": subprocess.PIPE, "stderr": subprocess.PIPE}
+        waiting = subprocess.Popen(words, cwd=folder / "book", text=True, **streams)
         time.sleep(0.3)
         expect(waiting.poll() is None, "a program does not wait for another that is at work")
         fcntl.lockf(lock, fcntl.LOCK_UN)
-    expect(says_booked(waiting.communicate(timeout=60)[0]), "a program that has waited does not book its request")
+        said, told = waiting.communicate(timeout=60)
+        expect("waiting" in told, "a program that waits does not say so")
+        expect(says_booked(said), "a program that has waited does not book its request")
+        fcntl.lockf(lock, fcntl.LOCK_SH)
+        expect(run(folder, ["view"]).exit == 0, "a reader waits for another")
     expect(table_of(run(folder, ["view"]).said)[1] == 1, "a program that has waited has lost its request")
+    return 4
 
 
 def check_unseen():
@@ -76,3 +235,11 @@ def check_unseen():
     used = {line.split()[-1].split("@")[0] for line in listed.splitlines()}
     expect("rename" in used, "what the site program imports cannot be read")
     expect(not used & set(UNSEEN), f"the site program changes files past the shim: {sorted(used & set(UNSEEN))}")
+    return 0
+
+
+def check_plain():
+    checks = (check_unseen, check_untold, check_cut_note, check_lost_page, check_open_again, check_settling,
+              check_not_understood, check_refused, check_nothing_there, check_streams, check_read_only, check_odd_files,
+              check_locking)
+    yield f"{sum(check() for check in checks)} commands without a cut end as they should"

@@ -8,7 +8,7 @@ import struct
 import subprocess
 import tempfile
 
-USAGE, FAILED, NO_RECORD, KILLED = 64, 74, 75, -9
+USAGE, FAILED, NO_RECORD, UNTOLD, OTHER_NUMBER, KILLED = 64, 74, 75, 76, 77, -9
 
 # At its own end a program is cut so that all is lost that it had not brought to the disk.
 AT_ITS_END = -1
@@ -92,14 +92,23 @@ def run(folder, words, at=0, way=""):
 # ---- What the program says.
 
 
+def told_by(said):
+    """What status says of the last request: its number, whether it is booked, and what it asks. None if it says that it
+    can't be told, or says nothing."""
+    found = re.search(r"^request  (\d+) \((.*)\) is (not )?booked(: it was refused with \d+)?$", said, re.M)
+    if found:
+        return int(found[1]), not found[3], found[2]
+    return (0, False, "") if re.search("^request  none was given since the book was opened$", said, re.M) else None
+
+
 def status_of(folder):
-    """The last request's number and whether it is booked, by status; the cut at its end takes nothing of it back."""
+    """What status says of the last request; the cut at its end takes nothing of it back."""
     setting.restarts += 1
     done = run(folder, ["status"], AT_ITS_END)
     expect(done.exit == 0, f"status ends with {done.exit}: {done.said}")
-    found = re.search(r"^request  (?:(\d+) \(.*\) is (not )?booked|none was given)$", done.said, re.M)
-    expect(found, f"status does not tell the last request: {done.said}")
-    return (int(found[1]), not found[2]) if found[1] else (0, False)
+    told = told_by(done.said)
+    expect(told, f"status does not tell the last request: {done.said}")
+    return told
 
 
 def says_booked(said):
@@ -125,12 +134,16 @@ def page_of(folder):
     return page[:32], page[32:]
 
 
-def check_book(folder, book):
-    """The page, the one current record among the two, to the byte, and the table that view shows."""
+def check_stored(folder, book):
+    """The page, and the one current record among the two, to the byte."""
     summary, key = page_of(folder)
     expect(summary == book.summary, "the page is not the book's")
     records = [file.read_bytes() for file in (folder / "book").glob("book.?")]
     expect(records.count(book.record(key)) == 1, "the book's record is not there, or not once")
+
+
+def check_view(folder, book):
+    """The table that view shows."""
     view = run(folder, ["view"])
     expect(view.exit == 0, f"view ends with {view.exit}: {view.said}")
     expect(table_of(view.said) == book.table(), f"view shows {view.said}")

@@ -9,6 +9,15 @@ from program import KILLED, copy, expect, new_folder, page_of, run
 KINDS = {"capacity": CAPACITY, "charge": CHARGE, "discharge": DISCHARGE, "move": MOVE}
 
 
+def asked_by(words):
+    """The kind, rack, other and amount of a command's words, or None if it is no request."""
+    kind = KINDS.get(words[0])
+    if kind is None:
+        return None
+    numbers = [int(word) for word in words[1:]]
+    return kind, numbers[0], numbers[1] if kind == MOVE else 0, numbers[-1]
+
+
 @dataclasses.dataclass
 class Scenario:
     """A command on a book, and what it makes of it."""
@@ -20,11 +29,7 @@ class Scenario:
     refused: int = 0
 
     def asked(self):
-        kind = KINDS.get(self.words[0])
-        if kind is None:
-            return None
-        numbers = [int(word) for word in self.words[1:]]
-        return (kind, numbers[0], numbers[1] if kind == MOVE else 0, numbers[-1])
+        return asked_by(self.words)
 
     def from_book(self, book):
         """The book after the command, given on this one."""
@@ -35,13 +40,8 @@ class Scenario:
         """What a cut may leave: the request not noted, noted and not booked, or booked."""
         books = [self.before, self.from_book(self.before)]
         if self.asked():
-            books.append(noted(self.before))
+            books.append(self.before.noted(*self.asked()))
         return books
-
-
-def noted(book):
-    """The book when one more request is noted and not booked."""
-    return dataclasses.replace(book, number=book.number + 1, booked=False)
 
 
 # ---- Books in all conditions.
@@ -63,28 +63,45 @@ def booked(folder, book, *lines):
     return folder, book
 
 
+def cut_behind(folder, book, line, name, which=0):
+    """After a cut behind the first, or the last, replacing of a file of this name. The page says what the book is."""
+    words = line.split()
+    operations = run(copy(folder), words).operations
+    places = [i for i, operation in enumerate(operations) if f"rename to {name}" in operation]
+    folder = copy(folder)
+    # The operation behind a renaming is the fsync that brings it to the disk.
+    expect(run(folder, words, places[which] + 2, "after").exit == KILLED, "the cut did not come")
+    moved = page_of(folder)[0] != book.summary
+    return folder, book.given(*asked_by(words), 0) if moved else book.noted(*asked_by(words))
+
+
+def pending(folder, book, line):
+    """After a cut that came when the request had been noted, before the page moved."""
+    return cut_behind(folder, book, line, "request")
+
+
 def answer_lost(folder, book, line):
     """After a cut that came when the page had moved, before the answer was stored."""
-    scenario = Scenario(line, folder, book, line.split())
-    operations = run(copy(folder), scenario.words).operations
-    moved = next(i for i, operation in enumerate(operations) if operation.endswith("rename to page"))
-    folder = copy(folder)
-    expect(run(folder, scenario.words, moved + 2, "after").exit == KILLED, "the cut did not come")
-    return folder, scenario.from_book(book)
+    return cut_behind(folder, book, line, "page")
+
+
+def answer_stored(folder, book, line):
+    """After a cut that came when the answer had been stored, before the request was noted as booked."""
+    return cut_behind(folder, book, line, "book.", -1)
 
 
 def page_of_before(folder, book, line):
     """After a cut that left the page of before, but an answer that has reached the disk."""
     page = (folder / "book" / "page").read_bytes()
-    folder, _ = booked(folder, book, line)
+    folder, _ = answer_stored(folder, book, line)
     (folder / "book" / "page").write_bytes(page)
-    return folder, noted(book)
+    return folder, book.noted(*asked_by(line.split()))
 
 
 def refused(folder, book, line):
     folder = copy(folder)
     expect(run(folder, line.split()).exit > 0, f"{line} is not refused")
-    return folder, noted(book)
+    return folder, book.noted(*asked_by(line.split()))
 
 
 def damaged(folder, book):
@@ -98,28 +115,47 @@ def damaged(folder, book):
     return folder, book
 
 
-def scenarios():
-    opened = open_book()
-    yield Scenario("open in an empty directory", new_folder(), None, ["open"])
-    yield Scenario("open of an open book", opened, None, ["open"])
-    yield Scenario("the first request", opened, Book(), ["capacity", "3", "72000"])
-
-    on_b = booked(opened, Book(), "capacity 3 72000", "capacity 5 50000", "charge 3 70000")
+def situations():
+    """Books as commands and cuts leave them, by a name."""
+    opened = open_book(), Book()
+    on_b = booked(*opened, "capacity 3 72000", "capacity 5 50000", "charge 3 70000")
     on_a = booked(*on_b, "charge 5 10000")
+    refused_last = refused(*on_a, "charge 3 2001")
+    return {
+        "a new book": opened,
+        "book.b current": on_b,
+        "book.a current": on_a,
+        "the same capacity before it": booked(*on_b, "capacity 3 72000"),
+        "a refused request before it": refused_last,
+        "a request before it noted, and not booked": pending(*on_a, "charge 5 600"),
+        "the answer before it lost": answer_lost(*on_a, "charge 5 600"),
+        "the answer before it stored, and not noted": answer_stored(*on_a, "charge 5 600"),
+        "the answer before it stored, but the page of before": page_of_before(*on_a, "charge 5 600"),
+        "a refused request before it, and the current record damaged": damaged(*refused_last),
+        "the current record damaged": damaged(*on_a),
+    }
+
+
+def scenarios():
+    there = situations()
     requests = ["capacity 3 80000", "charge 5 600", "discharge 3 400", "move 3 5 400"]
     given = {
-        "the same request before it": (on_a, ["charge 5 10000"]),
-        "book.b current": (on_b, requests + ["view", "view 3", "status"]),
-        "book.a current": (on_a, ["charge 5 600", "status"]),
-        "the same capacity before it": (booked(*on_b, "capacity 3 72000"), ["capacity 3 72000"]),
-        "a refused request before it": (refused(*on_a, "charge 3 2001"), ["charge 3 1000"]),
-        "the answer before it lost": (answer_lost(*on_a, "charge 5 600"), requests + ["view", "status"]),
-        "the answer before it stored, but the page of before": (
-            page_of_before(*on_a, "charge 5 600"), ["charge 5 600", "discharge 3 400", "status"]),
-        "the current record damaged": (damaged(*on_a), ["charge 5 600", "status"]),
+        "a new book": ["capacity 3 72000", "open"],
+        "book.b current": requests + ["view", "view 3", "status"],
+        "book.a current": ["charge 5 600", "charge 5 10000", "status"],
+        "the same capacity before it": ["capacity 3 72000"],
+        "a refused request before it": ["charge 3 1000", "status"],
+        "a request before it noted, and not booked": ["charge 5 600", "discharge 3 400", "status"],
+        "the answer before it lost": requests + ["view", "status"],
+        "the answer before it stored, and not noted": ["charge 5 600", "discharge 3 400", "status"],
+        "the answer before it stored, but the page of before": ["charge 5 600", "discharge 3 400", "status"],
+        "a refused request before it, and the current record damaged": ["charge 5 600", "status"],
+        "the current record damaged": ["charge 5 600", "status"],
     }
-    for where, ((folder, book), lines) in given.items():
+    yield Scenario("open in an empty directory", new_folder(), None, ["open"])
+    for where, lines in given.items():
         for line in lines:
-            yield Scenario(f"{line}, {where}", folder, book, line.split())
-    for line in "charge 3 2001", "move 5 3 2001":
-        yield Scenario(f"{line}, which is refused", *on_a, line.split(), refused=9)
+            yield Scenario(f"{line}, {where}", *there[where], line.split())
+    for where in "book.a current", "the answer before it lost":
+        yield Scenario(f"a refused charge, {where}", *there[where], "charge 3 2001".split(), refused=9)
+        yield Scenario(f"a refused move, {where}", *there[where], "move 5 3 2001".split(), refused=9)

@@ -15,6 +15,7 @@
  *                   fail      the operation fails, and the program goes on
  *                   short     a write writes half its bytes and says so, and the program goes on
  *                   signal    a write is interrupted before it has written anything, and the program goes on
+ *                   readonly  at no operation in particular: every one fails as on a file system that can't be written
  *
  * At a program's own end the way is `lost`: what it left to chance is gone then. Independently of all this, two things
  * are a line 'broken' in the log: a file that is given another's name before its bytes are on the disk, and a name that
@@ -221,9 +222,11 @@ static void after(void)
 
 static int fails(int reason)
 {
-    if (!cut("fail"))
+    int readonly = strcmp(way, "readonly") == 0;
+
+    if (!readonly && !cut("fail"))
         return 0;
-    errno = reason;
+    errno = readonly ? EROFS : reason;
     return 1;
 }
 

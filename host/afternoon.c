@@ -266,5 +266,5 @@ int main(void)
     a_changed_record(discharge);
     another_controllers_record(discharge);
     printf("%s updates were booked, none was lost and none was booked twice.\n", grouped(updates));
-    return 0;
+    return fflush(stdout) != 0 || ferror(stdout) ? 1 : 0;
 }

@@ -9,6 +9,9 @@ const char *const book_names[2] = {"book.a", "book.b"};
 #define PAGE_NAME "page"
 #define NOTE_NAME "request"
 
+/* The summary of a fresh page, and a key that nobody has made. */
+static const uint8_t no_summary[KEEPER_SUMMARY_SIZE], no_key[KEEPER_KEY_SIZE];
+
 /* ---- Reading. */
 
 static int load_note(struct book *b)
@@ -78,9 +81,10 @@ static int store_current(struct book *b)
 
 /* ---- Starting. */
 
-static int page_stands_at(const struct book *b, const uint8_t *summary)
+/* The current record has the page's summary: the page itself is the controller's. */
+static int stands_at(const struct book *b, const uint8_t *summary)
 {
-    return b->page_len == KEEPER_PAGE_SIZE && memcmp(b->page, summary, KEEPER_SUMMARY_SIZE) == 0;
+    return b->current >= 0 && has_summary(&b->copies[b->current], summary);
 }
 
 static int resume(const struct book *b)
@@ -132,16 +136,16 @@ static enum told tell_pending(const struct book *b)
 
     if (repeat_on(b, b->note.stands, b->note.request, answer) >= 0)
         return TOLD_BOOKED;
-    return b->current >= 0 && page_stands_at(b, b->note.stands) ? TOLD_NOT_BOOKED : CANT_BE_TOLD;
+    return stands_at(b, b->note.stands) ? TOLD_NOT_BOOKED : CANT_BE_TOLD;
 }
 
 static enum told tell(const struct book *b)
 {
     if (!b->note_good)
-        return CANT_BE_TOLD;
+        return stands_at(b, no_summary) ? TOLD_NONE_BOOKED : CANT_BE_TOLD;
     if (b->note.outcome == OUTCOME_PENDING)
         return tell_pending(b);
-    if (!page_stands_at(b, b->note.stands))
+    if (!stands_at(b, b->note.stands))
         return CANT_BE_TOLD;
     switch (b->note.outcome) {
     case OUTCOME_NONE_GIVEN:
@@ -176,6 +180,11 @@ static int store_note(const struct note *n)
     return store_replace(NOTE_NAME, bytes, NOTE_SIZE) != 0 ? BOOK_FAILED : 0;
 }
 
+static void note_stands(struct book *b)
+{
+    memcpy(b->note.stands, b->copies[b->current].bytes + KEEPER_SUMMARY_AT, KEEPER_SUMMARY_SIZE);
+}
+
 /* The request of the note is the last one booked; its record is the one at which the page stood. */
 static void keep_as_booked(struct note *n)
 {
@@ -187,15 +196,15 @@ static void keep_as_booked(struct note *n)
 static int note_pending(struct book *b, const uint8_t *request)
 {
     struct note *n = &b->note;
-    uint64_t number = book_next_number(b);
+    uint64_t count = book_count(b);
 
     if (n->outcome == OUTCOME_PENDING && b->told == TOLD_BOOKED)
         keep_as_booked(n);
     n->outcome = OUTCOME_PENDING;
     n->refusal = 0;
-    n->number = number;
+    n->number = count + 1;
     memcpy(n->request, request, KEEPER_REQUEST_SIZE);
-    memcpy(n->stands, b->page, KEEPER_SUMMARY_SIZE);
+    note_stands(b);
     return store_note(n);
 }
 
@@ -211,31 +220,43 @@ static int note_booked(struct book *b)
 {
     keep_as_booked(&b->note);
     b->note.outcome = OUTCOME_BOOKED;
-    memcpy(b->note.stands, b->page, KEEPER_SUMMARY_SIZE);
+    note_stands(b);
     b->told = TOLD_BOOKED;
     return store_note(&b->note);
 }
 
-uint64_t book_next_number(const struct book *b)
+uint64_t book_count(const struct book *b)
 {
-    return b->told == TOLD_NOT_BOOKED ? b->note.number : b->note.number + 1;
+    return b->told == TOLD_NOT_BOOKED ? b->note.number - 1 : b->note.number;
 }
 
-int book_settle(struct book *b, uint64_t number)
+uint64_t book_least_count(const struct book *b)
 {
-    struct note *n = &b->note;
+    if (!b->note_good)
+        return 1;
+    return b->note.outcome == OUTCOME_PENDING || b->note.outcome == OUTCOME_REFUSED ? b->note.number
+                                                                                   : b->note.number + 1;
+}
 
+int book_settle(struct book *b, uint64_t count)
+{
     if (b->current < 0)
         return BOOK_NO_RECORD;
-    memset(n, 0, sizeof *n);
-    n->outcome = OUTCOME_SETTLED;
-    n->number = number;
-    memcpy(n->stands, b->page, KEEPER_SUMMARY_SIZE);
+    memset(&b->note, 0, sizeof b->note);
+    b->note.outcome = OUTCOME_SETTLED;
+    b->note.number = count;
+    note_stands(b);
     b->told = TOLD_SETTLED;
-    return store_note(n);
+    return store_note(&b->note);
 }
 
 /* ---- Booking. */
+
+/* Nothing is booked. Any other refusal of a current record says that something is not as it was found to be. */
+static int is_final(uint32_t refusal)
+{
+    return refusal == KEEPER_REFUSED_REQUEST || (KEEPER_REFUSED_CAPACITY <= refusal && refusal <= KEEPER_REFUSED_LIMIT);
+}
 
 int book_request(struct book *b, const uint8_t *request)
 {
@@ -252,8 +273,8 @@ int book_request(struct book *b, const uint8_t *request)
     number = keeper_perform(b->page, b->page_len, b->copies[from].bytes, b->copies[from].len, request,
                             KEEPER_REQUEST_SIZE, answer, sizeof answer);
     if (number != KEEPER_ACCEPTED)
-        return note_refused(b, number) != 0 ? BOOK_FAILED : (int)number;
-    /* Where the protected memory is what perform was lent, the page has moved by now, and this line goes. */
+        return !is_final(number) || note_refused(b, number) != 0 ? BOOK_FAILED : (int)number;
+    /* Perform was lent a copy: this is the moment at which the page moves. */
     if (store_replace(PAGE_NAME, b->page, KEEPER_PAGE_SIZE) != 0)
         return BOOK_FAILED;
     take_answer(b, from, answer);
@@ -264,10 +285,30 @@ int book_request(struct book *b, const uint8_t *request)
 
 /* ---- Opening. */
 
+/* Whether there is a valid record, or a note, of a page on which something was booked: the fresh page is not theirs. */
+static int was_booked_on(const struct book *b)
+{
+    for (int i = 0; i < 2; i++) {
+        const struct copy *c = &b->copies[i];
+        if (keeper_view(b->page, b->page_len, c->bytes, c->len, 0) == KEEPER_REFUSED_CURRENT)
+            return 1;
+    }
+    return b->note_good && (memcmp(b->note.stands, no_summary, sizeof no_summary) != 0 || b->note.number > 1);
+}
+
+int book_can_open(const struct book *b)
+{
+    uint8_t first[KEEPER_RECORD_SIZE];
+
+    if (!b->page_there)
+        return !b->copies[0].there && !b->copies[1].there && !b->note_there;
+    if (keeper_open(b->page, b->page_len, first, sizeof first) != KEEPER_ACCEPTED)
+        return 0;
+    return memcmp(b->page + KEEPER_KEY_AT, no_key, sizeof no_key) != 0 && (resume(b) >= 0 || !was_booked_on(b));
+}
+
 static int make_page(struct book *b)
 {
-    if (b->copies[0].there || b->copies[1].there || b->note_there)
-        return BOOK_NO_RECORD;
     memset(b->page, 0, KEEPER_PAGE_SIZE);
     b->page_len = KEEPER_PAGE_SIZE;
     if (store_random(b->page + KEEPER_KEY_AT, KEEPER_KEY_SIZE) != 0)
@@ -294,10 +335,12 @@ int book_open(void)
     uint32_t number;
 
     if (status == 0 && !b.page_there)
-        status = make_page(&b);
+        status = book_can_open(&b) ? make_page(&b) : BOOK_NO_RECORD;
     if (status != 0)
         return status;
     /* A page that is there is never replaced: the keeper says whether it is fresh. */
     number = keeper_open(b.page, b.page_len, first, sizeof first);
-    return number != KEEPER_ACCEPTED ? (int)number : complete(&b, first);
+    if (number != KEEPER_ACCEPTED)
+        return (int)number;
+    return !b.page_there || book_can_open(&b) ? complete(&b, first) : BOOK_NO_RECORD;
 }

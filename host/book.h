@@ -28,8 +28,9 @@
  *     not booked    if the record that has the summary noted is the current one
  *
  * and else it can't be told. No other record tells it: on the current one repeat says 8 of a request that is booked,
- * and on another it may accept one that asks the same. Where it can't be told, no request is taken until the user has
- * settled it. An outcome that was noted holds as long as the page has the summary that was noted with it.
+ * and on another it may accept one that asks the same. An outcome that was noted holds as long as the current record
+ * has the summary that was noted with it. Where it can't be told, no request is taken until the user has settled which
+ * one was booked last. The page is lent to the calls; but for opening, nothing else here reads it.
  */
 #ifndef BOOK_H
 #define BOOK_H
@@ -50,8 +51,8 @@ struct copy {
     size_t len;
 };
 
-/* What can be told of the last request given. */
-enum told { CANT_BE_TOLD, TOLD_NONE_GIVEN, TOLD_BOOKED, TOLD_NOT_BOOKED, TOLD_SETTLED };
+/* What can be told of the last request given. None booked: its note is lost, but the book's first record is current. */
+enum told { CANT_BE_TOLD, TOLD_NONE_GIVEN, TOLD_NONE_BOOKED, TOLD_BOOKED, TOLD_NOT_BOOKED, TOLD_SETTLED };
 
 struct book {
     int page_there;
@@ -69,10 +70,13 @@ extern const char *const book_names[2];
 
 /*
  * Makes a fresh page with a random key, unless there is a page, and completes what belongs to a fresh page: its first
- * record, and a note that no request was given. A page is not made where there are records or a note: theirs is lost,
- * and no other fits them. Returns 0, the keeper's refusal, BOOK_NO_RECORD or BOOK_FAILED.
+ * record, and a note that no request was given. Returns 0, the keeper's refusal, BOOK_NO_RECORD if what is stored here
+ * does not belong to a fresh page, or BOOK_FAILED.
  */
 int book_open(void);
+
+/* Whether book_open would give the first record, of a new page or of the fresh one that is there. */
+int book_can_open(const struct book *b);
 
 /*
  * Reads what is stored, finds the current record, and tells what became of the last request. Stores nothing. Returns 0,
@@ -86,10 +90,16 @@ int book_start(struct book *b);
  */
 int book_request(struct book *b, const uint8_t *request);
 
-/* The number that the next request has, where it can be told. */
-uint64_t book_next_number(const struct book *b);
+/* How many requests are booked, where it can be told; the next one has the number above. */
+uint64_t book_count(const struct book *b);
 
-/* Notes, as the user's word, that the last request booked has this number. Returns 0, BOOK_NO_RECORD or BOOK_FAILED. */
-int book_settle(struct book *b, uint64_t number);
+/*
+ * Where it can't be told: how many are booked at least. The current record has another summary than the one noted, so
+ * the page has moved since.
+ */
+uint64_t book_least_count(const struct book *b);
+
+/* Notes, as the user's word, that so many are booked. Returns 0, BOOK_NO_RECORD or BOOK_FAILED. */
+int book_settle(struct book *b, uint64_t count);
 
 #endif

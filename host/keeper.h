@@ -19,41 +19,49 @@
  *
  *   A new controller has a page of 32 zero bytes and 32 bytes of key. keeper_open gives its first record.
  *
- *   What follows is a module that a site may take over as it is: host/book.c, with the note of host/note.c. A site that
- *   writes its own does the same, in the same order, each step stored where a power cut does not reach it before the
- *   next begins:
+ *   What follows is also a module that a site may take over: host/book.c, with the note of host/note.c. A site that
+ *   writes its own does the same, in the same order, and stores each thing as one block, where a power cut does not
+ *   reach it, before it goes on.
  *
- *     Before perform, three things are stored: the current record; the request; and, with the request, the summary of
- *     the record that it is for (KEEPER_SUMMARY_AT) and that its outcome is not known yet: it is pending.
- *     1. keeper_perform. When it returns 0, the page has moved: the request is booked, the answer is the current record
- *        and the one before is current no more. Another number is a refusal: nothing is booked and nothing has changed;
- *        note that the request is no longer pending.
- *     2. The answer is stored, in a place of its own: never over the record that the request is for.
- *     3. It is noted that the request is booked. Only now may anybody be told so.
- *     The record before and the request are kept until the next request's answer is stored. They are what keeper_repeat
+ *     Two records are stored, the current one and the one before it (before the first booking there is one), and a note
+ *     of the last request given. The note has a checksum, since a note that is damaged must tell nothing.
+ *     1. The request is noted: its bytes, a number by which its giver knows it from an equal one, the summary of the
+ *        record that it is for (KEEPER_SUMMARY_AT), and that it is pending. The last request booked stays in the note,
+ *        with the summary of the record that that one was for.
+ *     2. keeper_perform. When it returns 0, the page has moved: the request is booked, the answer is the current record
+ *        and the one before is current no more. If it returns 6, 9, 10 or 11, nothing is booked and nothing has
+ *        changed; note that. At any other number, or if no answer came back, do as after a restart: the request may be
+ *        booked.
+ *     3. The answer is stored in place of the other record: never over the one that the request is for.
+ *     4. The request is noted as booked, and as the last one booked, with the answer's summary. Only now may anybody be
+ *        told so.
+ *     So the record before and its request stay until the next answer has been stored. They are what keeper_repeat
  *     gives a lost or damaged answer back from.
  *
- *   After a restart, offer keeper_resume the two records that are stored.
+ *   After a restart, offer keeper_resume the two records.
  *
  *     KEEPER_RAM or KEEPER_DISK: that one is the current record.
  *     KEEPER_NEITHER: a cut has come between the page and the answer, or a record is damaged. Call keeper_repeat with
- *     the pending request and the record that has the summary noted with it. If that is refused, or nothing is pending,
- *     call it with the last request booked and the record that that one was for. If either returns 0, it has given the
- *     current record; store it as in step 2, before the next perform. If not, the site no longer has the current
- *     record, and nothing can be booked on another. (On a fresh page keeper_open gives it again.)
+ *     the pending request on the record that has the summary noted. If there is no such record, or that is refused, or
+ *     nothing is pending, call it with the last request booked on the record that that one was for. If either returns
+ *     0, it has given the current record: store it as in step 3, before anything else is noted or performed. If neither
+ *     does, the site no longer has the current record, and nothing can be booked on another. (On a fresh page
+ *     keeper_open gives it again.)
  *
  *   Then, if a request is pending, and whatever keeper_resume has returned, look for the record that has the summary
- *   noted with it, and no other:
+ *   noted, and no other:
  *
- *     keeper_repeat returns 0 with that record and the request: the request is booked. Go on with step 3, and do not
+ *     keeper_repeat returns 0 with that record and the request: the request is booked. Go on with step 4, and do not
  *     perform it again.
- *     that record is the current one: the request is not booked. It may be performed.
- *     neither, or that record is not there: it can't be told whether the request is booked. Do not perform it again
- *     before somebody has found out.
+ *     that record is the current one: the request is not booked. Report it; it is performed only when its giver gives
+ *     it again.
+ *     neither, or that record is not there: it can't be told whether the request is booked. Take no request, this or
+ *     another, before somebody has found out.
  *
  *   A refusal of keeper_repeat alone says nothing: with the current record it gives KEEPER_REFUSED_CURRENT for a
  *   request that is booked, and with a damaged one another number. And with another record it may accept a request that
- *   is not booked, since an earlier one asked the same.
+ *   is not booked, since an earlier one asked the same. An outcome that was noted holds as long as the current record
+ *   has the summary that was noted with it; else the note is an older one, and tells nothing.
  *
  * Power cuts
  *

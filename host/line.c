@@ -6,6 +6,9 @@
 
 #include "request.h"
 
+/* A request's number can't be counted up to this in any life of a controller, and does not wrap above it. */
+#define MOST_REQUESTS 999999999999999999u
+
 static const struct known {
     const char *name, *words; /* the name, and what stands behind it */
     int least, most;          /* how many words may stand there */
@@ -26,6 +29,14 @@ static int not_understood(const char *word, const char *why)
 {
     fprintf(stderr, "site: '%s' %s; site --help says more\n", word, why);
     return -1;
+}
+
+/* Of options that stand together behind one dash, getopt names the bad one alone. */
+static int not_an_option(int option, const char *word)
+{
+    char letter[] = {'-', (char)optopt, '\0'};
+
+    return not_understood(optopt != 0 ? letter : word, option == ':' ? "has nothing behind it" : "is no option");
 }
 
 /* A number in digits alone, from least to most. */
@@ -74,7 +85,7 @@ static int read_words(const struct known *known, int count, char **words, struct
     if (asked->number != 0)
         return not_understood("-n", "is for a request");
     if (known->command == COMMAND_SETTLE)
-        return read_number(words[0], 0, UINT64_MAX - 1, &asked->number);
+        return read_number(words[0], 0, MOST_REQUESTS, &asked->number);
     if (count == 0)
         return 0;
     asked->one_rack = 1;
@@ -86,7 +97,7 @@ static int read_words(const struct known *known, int count, char **words, struct
 
 static int read_command(int count, char **words, struct asked *asked)
 {
-    if (count == 0)
+    if (count <= 0)
         return not_understood("", "is no command");
     for (size_t i = 0; i < sizeof known / sizeof *known; i++) {
         if (strcmp(known[i].name, words[0]) != 0)
@@ -112,13 +123,11 @@ int read_line(int argc, char **argv, struct asked *asked)
             asked->command = option == 'h' ? COMMAND_HELP : COMMAND_VERSION;
             return 0;
         }
-        if (option == ':')
-            return not_understood(argv[optind - 1], "has nothing behind it");
-        if (option == '?')
-            return not_understood(argv[optind - 1], "is no option");
+        if (option == ':' || option == '?')
+            return not_an_option(option, argv[optind - 1]);
         if (option == 'd')
             asked->directory = optarg;
-        else if (read_number(optarg, 1, UINT64_MAX - 1, &asked->number) != 0)
+        else if (read_number(optarg, 1, MOST_REQUESTS, &asked->number) != 0)
             return -1;
     }
     return read_command(argc - optind, argv + optind, asked);

@@ -32,25 +32,27 @@ static const char help[] =
     "    -n NUMBER                      take the request only if this is its number\n"
     "    -h, --help; --version\n"
     "\n"
-    "Racks are 0 to 15. Amounts are in ampere-seconds, at most 100,000,000.\n"
+    "Racks are 0 to 15. Amounts are in ampere-seconds, at most 100,000,000. The files are their owner's alone.\n"
     "\n"
     "A request's number is one above the count of those booked before it, whoever gave them; one that is not booked\n"
-    "leaves its number to the next. The program says it with the outcome. If you have no outcome, because the power\n"
-    "was cut or the exit status is 74, ask 'status' before you give the request again. If you alone give requests\n"
-    "here, yours is booked if status has its number and says that it is booked, and must not be given again. If\n"
-    "status says 'not booked', or has a number below, yours is not booked, and may be.\n"
+    "leaves its number to the next. Know the number that yours will have: 'status' shows the last one. If you have no\n"
+    "outcome, because the power was cut or the exit status is 74, wait until the program has ended, and ask 'status'\n"
+    "before you give the request again. If you alone give requests here, yours is booked if status has its number and\n"
+    "says that it is booked, and must not be given again. If status says 'not booked' or 'none', or has a number\n"
+    "below, yours is not booked, and may be.\n"
     "\n"
-    "Where two users share a book, the number that you see may be the other's. Give each request with -n then, and\n"
-    "the number above the last one booked: that line, given as often as you like, books at most once. It ends with 77\n"
-    "once the number is booked, by you or by the other; status shows what was asked, of the last request alone.\n"
+    "Where two users share a book, the number that you see may be the other's. Give each request with -n then: that\n"
+    "line, given as often as you like, books at most once. It ends with 77 if the number is not the next one. If that\n"
+    "comes after a try without an outcome, yours may be the one that is booked: status shows what was asked, of the\n"
+    "last request alone, so ask the other before you give it with a new number.\n"
     "\n"
     "If files were damaged, it may be that it can't be told whether the last request is booked. Then no request is\n"
-    "taken until you have found out, say from the meters, and have settled it: with its number if it is booked, with\n"
-    "one less if it is not.\n"
+    "taken until you have found out, say from the meters, which one was booked last, and have settled it with its\n"
+    "number. All that is promised of numbers holds as long as no number is settled that is too low.\n"
     "\n"
     "Exit status: 0 done and stored; 1 to 13 refused, with the keeper's number; 64 the command was not understood;\n"
-    "74 a file could not be read or written, or the outcome not be said; 75 there is no current record here; 76 it\n"
-    "can't be told whether the last request is booked; 77 the number is not the one that is asked for.\n";
+    "74 a file could not be read or written, or the outcome not be said; 75 there is no current record here, and the\n"
+    "book does not go on; 76 it can't be told whether the last request is booked; 77 another number is right.\n";
 
 /* ---- What happened, in words. */
 
@@ -66,33 +68,27 @@ static void say_request(const struct note *n)
     printf(")");
 }
 
-static int is_fresh(const struct book *b)
-{
-    uint8_t first[KEEPER_RECORD_SIZE];
-
-    return keeper_open(b->page, b->page_len, first, sizeof first) == KEEPER_ACCEPTED;
-}
-
 static void say_no_record(const struct book *b)
 {
-    if (is_fresh(b))
+    if (b->page_there && book_can_open(b))
         printf("There is no current record here. The page is fresh: 'site open' gives its first record again.\n");
     else if (b->page_there)
         printf("There is no current record here, and repeat does not give it.\n");
-    else if (b->copies[0].there || b->copies[1].there || b->note_there)
-        printf("The page is lost. The records here are of no use without it, and no other page fits them.\n");
-    else
+    else if (book_can_open(b))
         printf("There is no book here; 'site open' begins one.\n");
+    else
+        printf("The page is lost. The records here are of no use without it, and no other page fits them.\n");
 }
 
 static void say_untold(const struct book *b)
 {
-    if (b->note_good) {
+    if (!b->note_good)
+        printf("its note is %s: it can't be told whether it is booked\n", b->note_there ? "damaged" : "lost");
+    else if (b->note.outcome == OUTCOME_PENDING) {
         say_request(&b->note);
         printf(": it can't be told whether it is booked\n");
-    } else {
-        printf("its note is %s: it can't be told whether it is booked\n", b->note_there ? "damaged" : "lost");
-    }
+    } else
+        printf("the note does not fit what is stored: it can't be told which was the last\n");
 }
 
 /* The last request's outcome, behind the word 'request'. */
@@ -100,7 +96,10 @@ static void say_told(const struct book *b)
 {
     switch (b->told) {
     case TOLD_NONE_GIVEN:
-        printf("none was given since the book was opened\n");
+        printf("none was given since the book was last opened\n");
+        return;
+    case TOLD_NONE_BOOKED:
+        printf("none is booked; the note of what was given is %s\n", b->note_there ? "damaged" : "lost");
         return;
     case TOLD_SETTLED:
         printf("%llu is the last one booked; so it was settled\n", (unsigned long long)b->note.number);
@@ -142,7 +141,7 @@ static int run_open(void)
     if (status == 0)
         printf("The book is open: nothing is booked yet.\n");
     else if (status == BOOK_NO_RECORD)
-        printf("There is no page here, but there are records or a note: a new page would not fit them.\n");
+        printf("What is stored here is of another page than a fresh one.\n");
     else if (status != BOOK_FAILED)
         say_refused((uint32_t)status);
     return status;
@@ -150,8 +149,8 @@ static int run_open(void)
 
 static int not_next(const struct book *b, uint64_t number)
 {
-    printf("Not taken: the next request has the number %llu, and not %llu.\n",
-           (unsigned long long)book_next_number(b), (unsigned long long)number);
+    printf("Not taken: the next request has the number %llu, and not %llu.\n", (unsigned long long)book_count(b) + 1,
+           (unsigned long long)number);
     return SITE_OTHER_NUMBER;
 }
 
@@ -162,7 +161,7 @@ static int run_request(const struct asked *asked)
 
     if (status != 0)
         return status;
-    if (b.told != CANT_BE_TOLD && asked->number != 0 && asked->number != book_next_number(&b))
+    if (b.told != CANT_BE_TOLD && asked->number != 0 && asked->number != book_count(&b) + 1)
         return not_next(&b, asked->number);
     status = book_request(&b, asked->request);
     if (status == BOOK_UNTOLD) {
@@ -205,9 +204,9 @@ static void say_page(const struct book *b)
 
     printf("page     ");
     if (number == KEEPER_ACCEPTED)
-        printf("fresh: nothing is booked on it\n");
+        printf("fresh\n");
     else if (number == KEEPER_REFUSED_FRESH)
-        printf("something is booked on it\n");
+        printf("not fresh\n");
     else
         say_refused(number);
 }
@@ -240,36 +239,30 @@ static int run_status(void)
     say_copies(&b);
     printf("request  ");
     say_told(&b);
-    return b.told == CANT_BE_TOLD ? BOOK_UNTOLD : status;
+    return status == 0 && b.told == CANT_BE_TOLD ? BOOK_UNTOLD : status;
 }
 
-/* Of a request whose note is there only its own number can be meant, or that of the one before it. */
-static int is_meant(const struct book *b, uint64_t number)
-{
-    return !b->note_good || b->note.outcome != OUTCOME_PENDING || number == b->note.number ||
-           number == b->note.number - 1;
-}
-
+/* A number that was settled by mistake may be settled anew until the next request is given. */
 static int run_settle(const struct asked *asked)
 {
     struct book b;
     int status = start(&b);
+    uint64_t least = b.told == TOLD_SETTLED ? 1 : book_least_count(&b);
 
     if (status != 0)
         return status;
-    if (b.told != CANT_BE_TOLD) {
+    if (b.told != CANT_BE_TOLD && b.told != TOLD_SETTLED) {
         printf("There is nothing to settle. Request ");
         say_told(&b);
-        return 0;
+        return asked->number == book_count(&b) ? 0 : SITE_OTHER_NUMBER;
     }
-    if (!is_meant(&b, asked->number)) {
-        printf("Not settled. The last request: ");
-        say_untold(&b);
+    if (asked->number < least) {
+        printf("Not settled: at least %llu are booked.\n", (unsigned long long)least);
         return SITE_OTHER_NUMBER;
     }
     status = book_settle(&b, asked->number);
     if (status == 0)
-        printf("Settled: the next request has the number %llu.\n", (unsigned long long)book_next_number(&b));
+        printf("Settled: the next request has the number %llu.\n", (unsigned long long)book_count(&b) + 1);
     return status;
 }
 

@@ -1,5 +1,5 @@
 /* A file is replaced by a new one of another name, which is on the disk before it takes the old one's name. */
-#define _XOPEN_SOURCE 700
+#define _DEFAULT_SOURCE
 
 #include "store.h"
 
@@ -7,6 +7,7 @@
 #include <fcntl.h>
 #include <stdio.h>
 #include <string.h>
+#include <sys/file.h>
 #include <sys/random.h>
 #include <sys/stat.h>
 #include <unistd.h>
@@ -87,9 +88,9 @@ int store_replace(const char *name, const uint8_t *bytes, size_t len)
     int file;
 
     snprintf(fresh, sizeof fresh, "%s.new", name);
-    file = open_plain(fresh, O_WRONLY | O_CREAT | O_TRUNC);
+    file = open_plain(fresh, O_WRONLY | O_CREAT | O_TRUNC | O_NOFOLLOW);
     if (file < 0)
-        return -1;
+        return file == -2 ? failed(fresh) : -1;
     if (write_whole(file, bytes, len) != 0 || fsync(file) != 0) {
         failed(fresh);
         close(file);
@@ -104,46 +105,28 @@ int store_replace(const char *name, const uint8_t *bytes, size_t len)
 
 /* ---- A turn: two programs on one book would each move the page that it had read. */
 
-/* The lock goes when the program ends. Returns -2 for a reader who finds no lock file and can't make one. */
-static int open_lock(enum turn turn)
+/* The lock is on the directory itself, which no one can lose or replace, and goes when the program ends. */
+static int wait_for_turn(enum turn turn)
 {
-    int lock = open_plain("lock", turn == TO_READ ? O_RDONLY : O_RDWR | O_CREAT);
+    int kind = turn == TO_READ ? LOCK_SH : LOCK_EX;
 
-    if (lock != -2)
-        return lock;
-    lock = open("lock", O_RDWR | O_CREAT, OWNER);
-    if (lock < 0 && turn == TO_READ && (errno == EROFS || errno == EACCES))
-        return -2;
-    return lock < 0 ? failed("lock") : lock;
-}
-
-static int wait_for_turn(int lock, enum turn turn)
-{
-    struct flock whole = {.l_type = turn == TO_READ ? F_RDLCK : F_WRLCK, .l_whence = SEEK_SET};
-
-    if (fcntl(lock, F_SETLK, &whole) == 0)
+    if (flock(directory, kind | LOCK_NB) == 0)
         return 0;
-    if (errno != EACCES && errno != EAGAIN)
-        return failed("lock");
-    fprintf(stderr, "site: another program is at work on this book; waiting for it\n");
-    while (fcntl(lock, F_SETLKW, &whole) != 0)
+    if (errno == EWOULDBLOCK)
+        fprintf(stderr, "site: another program is at work on this book; waiting for it\n");
+    while (flock(directory, kind) != 0)
         if (errno != EINTR)
-            return failed("lock");
+            return -1;
     return 0;
 }
 
 int store_enter(const char *path, enum turn turn)
 {
-    int lock;
-
     if (chdir(path) != 0)
         return failed(path);
     directory = open(".", O_RDONLY | O_DIRECTORY);
-    if (directory < 0)
+    if (directory < 0 || wait_for_turn(turn) != 0)
         return failed(path);
-    lock = open_lock(turn);
-    if (lock == -1 || (lock >= 0 && wait_for_turn(lock, turn) != 0))
-        return -1;
     /* A name may have been given by a program that was killed before the disk had it: nothing may rest on it yet. */
     if (fsync(directory) != 0 && !(turn == TO_READ && (errno == EROFS || errno == EINVAL)))
         return failed(path);

@@ -8,11 +8,12 @@ record, no request is taken. A page that is set back to an older one is outside:
 
 import collections
 import itertools
+import re
 import shutil
 
 from model import CAPACITY
 from program import (AT_ITS_END, NO_RECORD, UNTOLD, Failure, check_stored, check_view, content, copy, expect, run,
-                     setting, status_of, told_by)
+                     says_none_booked, setting, status_of, told_by)
 from scenarios import answer_lost, booked, pending, refused, situations
 
 FILES = ["page", "book.a", "book.b", "request"]
@@ -101,19 +102,24 @@ def damages(folder, older):
 def check_told(folder, book, status):
     """What status says is true."""
     told = told_by(status.said)
-    if told is None:
-        lost_page = status.exit == NO_RECORD and "request  " not in status.said
-        expect(lost_page or status.exit == UNTOLD, f"exit status {status.exit} where it can't be told: {status.said}")
-        return "can't be told"
-    expect(status.exit in (0, NO_RECORD), f"exit status {status.exit} with an outcome told: {status.said}")
-    expect(told == book.told(), f"status says {told}, and true is {book.told()}")
-    return ("booked" if told[1] else "not booked") if told[0] else "none given"
+    if told is not None:
+        expect(told == book.told(), f"status says {told}, and true is {book.told()}")
+        return ("booked" if told[1] else "not booked") if told[0] else "none given"
+    if says_none_booked(status.said):
+        expect(book.count == 0, "status says that nothing is booked")
+        return "none booked"
+    shown = re.search(r"^request  (?:(\d+) \((.*)\)|its note is (?:lost|damaged)|the note does not fit what is "
+                      r"stored): it can't be told ", status.said, re.M)
+    expect(shown or (status.exit == NO_RECORD and "request  " not in status.said), f"status says {status.said}")
+    expect(status.exit in (NO_RECORD, UNTOLD), f"exit status {status.exit} where it can't be told")
+    expect(not shown or not shown[1] or (int(shown[1]), shown[2]) == (book.number, book.asked), "another is shown")
+    return "can't be told"
 
 
 def check_taken(folder, book):
     """The next request is booked on the book that status has told of."""
     check_view(folder, book)
-    done = run(folder, ["capacity", "3", "72002"])
+    done = run(folder, ["-n", str(book.count + 1), "capacity", "3", "72002"])
     expect(done.exit == 0, f"a request ends with {done.exit}: {done.said}")
     book = book.given(CAPACITY, 3, 0, 72002, 0)
     expect(status_of(folder) == book.told(), "status does not tell of the next request")
@@ -137,6 +143,9 @@ def check_damage(folder, book, damage):
         check_taken(folder, book)
     else:
         check_not_taken(folder, status)
+    if status.exit == UNTOLD:
+        expect(run(folder, ["settle", str(book.count)]).exit == 0, "the true number can't be settled")
+        check_taken(folder, book)
     return said, status.exit == 0
 
 

@@ -22,7 +22,7 @@ sys.path.insert(0, str(pathlib.Path(__file__).resolve().parent))
 from damages import check_damages
 from model import CAPACITY, Book
 from plain import check_plain
-from program import (AT_ITS_END, FAILED, KILLED, NO_RECORD, OTHER_NUMBER, UNTOLD, Failure, check_stored, check_view,
+from program import (AT_ITS_END, FAILED, KILLED, NO_RECORD, OTHER_NUMBER, Failure, check_stored, check_view,
                      content, copy, expect, names_held, page_of, run, says_booked, setting, status_of)
 from scenarios import scenarios, situations
 
@@ -68,7 +68,7 @@ def check_after_open(scenario, folder, told):
     """The same for open: what is there is completed by another open, and a page that is there is not replaced."""
     setting.restarts += 1
     status = run(folder, ["status"], AT_ITS_END)
-    ends = [0] if told else [0, NO_RECORD, UNTOLD]
+    ends = [0] if told else [0, NO_RECORD]
     expect(status.exit in ends, f"status ends with {status.exit}: {status.said}")
     page = folder / "book" / "page"
     was = page.read_bytes() if page.exists() else None
@@ -123,7 +123,7 @@ def play(scenario):
 def second_cuts(scenario, first, told):
     """Cuts in the restart, where that has something to recover or where a name is not on the disk yet."""
     restart = run(copy(first), ["status"])
-    expect(len(restart.operations) <= RESTING or scenario.words == ["open"], "status writes")
+    expect(len(restart.operations) <= RESTING, "status writes")
     if not names_held(first):
         return 0
     count = 0

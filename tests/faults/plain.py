@@ -10,7 +10,7 @@ import time
 from model import Book
 from program import (FAILED, NO_RECORD, OTHER_NUMBER, UNTOLD, USAGE, check_stored, check_view, content, copy, expect,
                      new_folder, run, says_booked, setting, status_of, table_of, told_by)
-from scenarios import KINDS, answer_stored, asked_by, booked, open_book, pending
+from scenarios import KINDS, answer_lost, answer_stored, asked_by, booked, open_book, pending
 
 HEADER = pathlib.Path(__file__).resolve().parents[2] / "host" / "keeper.h"
 
@@ -27,7 +27,8 @@ NOT_UNDERSTOOD = {"": "''", "fly": "'fly'", "-x view": "'-x'", "--colour view": 
                   "charge 3 0x10": "'0x10'", "charge 3 5 7": "'charge'", "move 1 2": "'move'", "move 3 256 1": "'256'",
                   "view x": "'x'", "view 1 2": "'view'", "open 3": "'open'", "status 3": "'status'",
                   "settle": "'settle'", "settle -1": "'-1'", "-n 0 charge 3 1": "'0'", "-n x charge 3 1": "'x'",
-                  "-n 18446744073709551616 charge 3 1": "'18446744073709551616'", "-n 3 view": "'-n'",
+                  "-n 1000000000000000000 charge 3 1": "'1000000000000000000'", "-n 3 view": "'-n'",
+                  "settle 18446744073709551617": "'18446744073709551617'", "-xh": "'-x'",
                   "view -n": "'-n'", "-d": "'-d'"}
 
 # On racks 3 and 5, with 70,000 of 72,000 and 10,000 of 50,000.
@@ -122,41 +123,83 @@ def check_lost_page():
                 file.unlink()
         was = content(folder)
         expect(run(folder, ["open"]).exit == NO_RECORD, f"a page is made where {kept} is")
-        (folder / "book" / "lock").unlink()
         expect(content(folder) == was, f"open without a page changes a file where {kept} is")
     return 4
 
 
+def check_cleared_page():
+    """A page of zeros, or one whose summary is cleared, is not taken for a fresh one where something was booked. (With
+    the first record still there, a cleared summary is a page set back.)"""
+    one, four = booked(open_book(), Book(), "capacity 3 1000"), two_racks()
+    unheard = answer_lost(open_book(), Book(), "capacity 3 1000")
+    for (before, _), cleared in (one, 64), (unheard, 64), (four, 64), (four, 32):
+        folder = copy(before)
+        page = folder / "book" / "page"
+        page.write_bytes(bytes(cleared) + page.read_bytes()[cleared:])
+        status = run(folder, ["status"])
+        expect(status.exit == NO_RECORD and "site open" not in status.said, f"status says {status.said}")
+        was = content(folder)
+        expect(run(folder, ["open"]).exit == NO_RECORD, f"a page with {cleared} bytes cleared is opened")
+        expect(content(folder) == was, "open has changed a file")
+    return 8
+
+
 def check_open_again():
     """Open on a fresh page completes what is missing, and leaves the note of a request that was given on it."""
-    folder, book = pending(open_book(), Book(), "capacity 3 72000")
-    (folder / "book" / "book.a").unlink()
-    expect(run(folder, ["open"]).exit == 0, "a fresh page is not opened again")
-    expect(status_of(folder) == book.told(), "open has changed what status says of a request")
-    check_stored(folder, book)
-    return 1
+    for damage in lambda file: file.unlink(), lambda file: file.write_bytes(bytes(451)):
+        folder, book = pending(open_book(), Book(), "capacity 3 72000")
+        damage(folder / "book" / "book.a")
+        expect("site open" in run(folder, ["status"]).said, "status does not say that open gives the first record")
+        expect(run(folder, ["open"]).exit == 0, "a fresh page is not opened again")
+        expect(status_of(folder) == book.told(), "open has changed what status says of a request")
+        check_stored(folder, book)
+    return 4
+
+
+# ---- Settling.
+
+
+def older_record_lost():
+    """A request booked and not noted, and the record that it was for lost: it can't be told."""
+    folder, book = answer_stored(*two_racks(), "charge 5 600")
+    key = (folder / "book" / "page").read_bytes()[32:]
+    for file in (folder / "book").glob("book.?"):
+        if file.read_bytes() != book.record(key):
+            file.unlink()
+    return folder
 
 
 def check_settling():
-    """What can't be told is settled by its number or by the one below, and the book goes on behind that."""
-    for settled in 5, 4:
-        folder, book = answer_stored(*two_racks(), "charge 5 600")
-        older = "book.b" if (folder / "book" / "book.b").read_bytes() != book.record(
-            (folder / "book" / "page").read_bytes()[32:]) else "book.a"
-        (folder / "book" / older).unlink()
-        was = content(folder)
-        for number in 3, 6, 0:
-            expect(run(folder, ["settle", str(number)]).exit == OTHER_NUMBER, f"{number} is settled where 5 is pending")
-        expect(content(folder) == was, "what is not settled has changed a file")
-        expect(run(folder, ["settle", str(settled)]).exit == 0, f"{settled} can't be settled")
+    """What can't be told is settled by a number that is not too low, and the count goes on behind that."""
+    folder = older_record_lost()
+    was = content(folder)
+    for number in 0, 3, 4:
+        expect(run(folder, ["settle", str(number)]).exit == OTHER_NUMBER, f"{number} is settled where 5 are booked")
+    expect(content(folder) == was, "what is not settled has changed a file")
+    for number in 7, 5:
+        expect(run(folder, ["settle", str(number)]).exit == 0, f"{number} can't be settled, or not anew")
         status = run(folder, ["status"])
         expect(status.exit == 0 and told_by(status.said) is None, "what is settled is told as if it were known")
-        expect(f"request  {settled} is the last one booked; so it was settled" in status.said, f"it says {status.said}")
-        done = run(folder, ["charge", "5", "1"])
-        expect(f"Request {settled + 1} " in done.said and says_booked(done.said), "the count does not go on")
-        expect(run(folder, ["settle", "1"]).exit == 0, "where it can be told, settle does not end well")
-        expect(f"Request {settled + 2} " in run(folder, ["charge", "5", "1"]).said, "settle has changed what is told")
-    return 14
+        expect(f"request  {number} is the last one booked; so it was settled" in status.said, f"it says {status.said}")
+    expect(says_booked(run(folder, ["-n", "6", "charge", "5", "1"]).said), "the count does not go on")
+    for number, end in ("6", 0), ("5", OTHER_NUMBER), ("7", OTHER_NUMBER):
+        expect(run(folder, ["settle", number]).exit == end, f"{number} is settled where 6 is told")
+    expect(says_booked(run(folder, ["-n", "7", "charge", "5", "1"]).said), "settle has changed what is told")
+    return 12
+
+
+def check_older_note():
+    """A note from before the page moved is noticed and can't be settled as it stands: a line with -n is booked once."""
+    folder, book = two_racks()
+    older = (folder / "book" / "request").read_bytes()
+    words = ["-n", str(book.count + 1), "charge", "5", "600"]
+    expect(run(folder, words).exit == 0, "a request is refused")
+    (folder / "book" / "request").write_bytes(older)
+    for line, end in (words, UNTOLD), (["settle", str(book.count)], OTHER_NUMBER), (words, UNTOLD):
+        expect(run(folder, line).exit == end, f"'{' '.join(line)}' does not end with {end}")
+    expect(run(folder, ["settle", str(book.count + 1)]).exit == 0, "the true number can't be settled")
+    expect(run(folder, words).exit == OTHER_NUMBER, "a line with -n is booked twice")
+    return 6
 
 
 # ---- Streams, file systems, and files that are none.
@@ -180,53 +223,55 @@ def check_streams():
 
 def check_read_only():
     """View and status on a file system that can't be written, with an answer to recover; and a request there."""
-    folder, book = answer_stored(*two_racks(), "charge 5 600")
-    (folder / "book" / "book.a").rename(folder / "book" / "kept")
-    for there in True, False:
-        if not there:
-            (folder / "book" / "lock").unlink()
-        was = content(folder)
-        for line, end in ("view", 0), ("view 5", 0), ("status", UNTOLD), ("charge 5 1", FAILED):
-            done = run(folder, line.split(), way="readonly")
-            expect(done.exit == end, f"'{line}' ends with {done.exit} where nothing can be written: {done.said}")
-        expect(content(folder) == was, "a file is changed where nothing can be written")
+    folder, book = answer_lost(*two_racks(), "charge 5 600")
+    was = content(folder)
+    for line, end in ("view", 0), ("view 5", 0), ("status", 0), ("charge 5 1", FAILED):
+        done = run(folder, line.split(), way="readonly")
+        expect(done.exit == end, f"'{line}' ends with {done.exit} where nothing can be written: {done.said}")
+    expect(content(folder) == was, "a file is changed where nothing can be written")
     check_view(folder, book)
-    return 8
+    return 4
 
 
 def check_odd_files():
-    """A pipe or a directory in place of a file is an error, and nobody waits for it."""
-    names = "page", "book.a", "book.b", "request", "lock", "request.new"
-    for name in names:
-        for make in os.mkfifo, os.mkdir:
-            folder, _ = two_racks()
-            path = folder / "book" / name
-            path.unlink(missing_ok=True)
-            make(path)
-            for line in ["charge 5 1"] if name == "request.new" else ["status", "view", "charge 5 1", "open"]:
-                expect(run(folder, line.split()).exit == FAILED, f"'{line}' takes a {make.__name__} for {name}")
-    return 2 * (4 * 5 + 1)
+    """A pipe or a directory in place of a file is an error that is said, and nobody waits for it."""
+    made = {"pipe": os.mkfifo, "directory": os.mkdir, "link to nowhere": lambda path: path.symlink_to("nowhere/at/all")}
+    count = 0
+    for name in "page", "book.a", "book.b", "request", "page.new", "request.new":
+        for words in ["link to nowhere"] if name.endswith(".new") else ["pipe", "directory"]:
+            for line in ["charge 5 1"] if name.endswith(".new") else ["status", "view", "charge 5 1", "open"]:
+                folder, _ = two_racks()
+                path = folder / "book" / name
+                path.unlink(missing_ok=True)
+                made[words](path)
+                done = plainly(folder, line.split(), capture_output=True)
+                expect(done.returncode == FAILED, f"'{line}' takes a {words} for {name}")
+                expect(done.stderr, f"'{line}' does not say that there is a {words} for {name}")
+                count += 1
+    return count
 
 
 def check_locking():
     """A program waits while another is at work in the directory, which is this one here, and says so; readers don't
-    wait for each other."""
+    wait for each other, and wait on a file system that can't be written too."""
     folder = open_book()
     run(folder, ["capacity", "3", "1000"])
-    with open(folder / "book" / "lock", "r+b") as lock:
-        fcntl.lockf(lock, fcntl.LOCK_EX)
-        words, streams = [setting.site, "charge", "3", "1"], {"stdout": subprocess.PIPE, "stderr": subprocess.PIPE}
-        waiting = subprocess.Popen(words, cwd=folder / "book", text=True, **streams)
+    directory = os.open(folder / "book", os.O_RDONLY)
+    for line in ["charge", "3", "1"], ["status"]:
+        fcntl.flock(directory, fcntl.LOCK_EX)
+        streams = {"stdout": subprocess.PIPE, "stderr": subprocess.PIPE}
+        waiting = subprocess.Popen([setting.site, *line], cwd=folder / "book", text=True, **streams)
         time.sleep(0.3)
         expect(waiting.poll() is None, "a program does not wait for another that is at work")
-        fcntl.lockf(lock, fcntl.LOCK_UN)
+        fcntl.flock(directory, fcntl.LOCK_UN)
         said, told = waiting.communicate(timeout=60)
         expect("waiting" in told, "a program that waits does not say so")
-        expect(says_booked(said), "a program that has waited does not book its request")
-        fcntl.lockf(lock, fcntl.LOCK_SH)
-        expect(run(folder, ["view"]).exit == 0, "a reader waits for another")
+        expect(waiting.returncode == 0 and "(charge rack 3 by 1) is booked" in said, f"it says {said}")
+    fcntl.flock(directory, fcntl.LOCK_SH)
+    expect(run(folder, ["view"]).exit == 0, "a reader waits for another")
+    os.close(directory)
     expect(table_of(run(folder, ["view"]).said)[1] == 1, "a program that has waited has lost its request")
-    return 4
+    return 5
 
 
 def check_unseen():
@@ -239,7 +284,7 @@ def check_unseen():
 
 
 def check_plain():
-    checks = (check_unseen, check_untold, check_cut_note, check_lost_page, check_open_again, check_settling,
-              check_not_understood, check_refused, check_nothing_there, check_streams, check_read_only, check_odd_files,
-              check_locking)
+    checks = (check_unseen, check_untold, check_cut_note, check_lost_page, check_cleared_page, check_open_again,
+              check_settling, check_older_note, check_not_understood, check_refused, check_nothing_there, check_streams,
+              check_read_only, check_odd_files, check_locking)
     yield f"{sum(check() for check in checks)} commands without a cut end as they should"

@@ -10,6 +10,9 @@ import tempfile
 
 USAGE, FAILED, NO_RECORD, UNTOLD, OTHER_NUMBER, KILLED = 64, 74, 75, 76, 77, -9
 
+# Seconds for a run, which takes a few thousandths of one.
+LONGEST = 20
+
 # At its own end a program is cut so that all is lost that it had not brought to the disk.
 AT_ITS_END = -1
 
@@ -82,7 +85,10 @@ def run(folder, words, at=0, way=""):
     env = {"LD_PRELOAD": setting.shim, "FAULTS_LOG": "../room/log", "FAULTS_ROOM": "../room"}
     env.update(FAULTS_AT=str(at), FAULTS_WAY=way)
     call = [setting.site, *words]
-    done = subprocess.run(call, cwd=folder / "book", env=env, capture_output=True, text=True, timeout=60)
+    try:
+        done = subprocess.run(call, cwd=folder / "book", env=env, capture_output=True, text=True, timeout=LONGEST)
+    except subprocess.TimeoutExpired:
+        raise Failure(f"{' '.join(words)}: no end after {LONGEST} seconds") from None
     lines = log.read_text().splitlines() if log.exists() else []
     broken = [line for line in lines if line.startswith("broken")]
     expect(not broken, f"{' '.join(words)}: {broken}")
@@ -98,7 +104,12 @@ def told_by(said):
     found = re.search(r"^request  (\d+) \((.*)\) is (not )?booked(: it was refused with \d+)?$", said, re.M)
     if found:
         return int(found[1]), not found[3], found[2]
-    return (0, False, "") if re.search("^request  none was given since the book was opened$", said, re.M) else None
+    return (0, False, "") if re.search("^request  none was given since the book was last opened$", said, re.M) else None
+
+
+def says_none_booked(said):
+    """Whether status says that nothing is booked, of a book whose note is lost or damaged."""
+    return re.search("^request  none is booked; the note of what was given is (lost|damaged)$", said, re.M) is not None
 
 
 def status_of(folder):

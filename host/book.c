@@ -234,17 +234,22 @@ uint64_t book_least_count(const struct book *b)
 {
     if (!b->note_good)
         return 1;
+    if (b->told == TOLD_SETTLED)
+        return b->note.least;
     return b->note.outcome == OUTCOME_PENDING || b->note.outcome == OUTCOME_REFUSED ? b->note.number
                                                                                    : b->note.number + 1;
 }
 
 int book_settle(struct book *b, uint64_t count)
 {
+    uint64_t least = book_least_count(b);
+
     if (b->current < 0)
         return BOOK_NO_RECORD;
     memset(&b->note, 0, sizeof b->note);
     b->note.outcome = OUTCOME_SETTLED;
     b->note.number = count;
+    b->note.least = least;
     note_stands(b);
     b->told = TOLD_SETTLED;
     return store_note(&b->note);
@@ -285,12 +290,13 @@ int book_request(struct book *b, const uint8_t *request)
 
 /* ---- Opening. */
 
-/* Whether there is a valid record, or a note, of a page on which something was booked: the fresh page is not theirs. */
-static int was_booked_on(const struct book *b)
+/* Whether there is a whole record, or a note, of another page than this fresh one: the page may have been cleared. */
+static int is_of_another_page(const struct book *b)
 {
     for (int i = 0; i < 2; i++) {
         const struct copy *c = &b->copies[i];
-        if (keeper_view(b->page, b->page_len, c->bytes, c->len, 0) == KEEPER_REFUSED_CURRENT)
+        uint32_t number = keeper_view(b->page, b->page_len, c->bytes, c->len, 0);
+        if (number == KEEPER_REFUSED_AUTHENTICATOR || number == KEEPER_REFUSED_CURRENT)
             return 1;
     }
     return b->note_good && (memcmp(b->note.stands, no_summary, sizeof no_summary) != 0 || b->note.number > 1);
@@ -304,7 +310,7 @@ int book_can_open(const struct book *b)
         return !b->copies[0].there && !b->copies[1].there && !b->note_there;
     if (keeper_open(b->page, b->page_len, first, sizeof first) != KEEPER_ACCEPTED)
         return 0;
-    return memcmp(b->page + KEEPER_KEY_AT, no_key, sizeof no_key) != 0 && (resume(b) >= 0 || !was_booked_on(b));
+    return memcmp(b->page + KEEPER_KEY_AT, no_key, sizeof no_key) != 0 && (resume(b) >= 0 || !is_of_another_page(b));
 }
 
 static int make_page(struct book *b)

@@ -94,8 +94,8 @@ int book_request(struct book *b, const uint8_t *request);
 uint64_t book_count(const struct book *b);
 
 /*
- * Where it can't be told: how many are booked at least. The current record has another summary than the one noted, so
- * the page has moved since.
+ * How many are booked at least, where it can't be told: the current record has another summary than the one noted, so
+ * the page has moved since. Where it was settled, as many as then.
  */
 uint64_t book_least_count(const struct book *b);
 

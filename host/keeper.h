@@ -30,11 +30,12 @@
  *        with the summary of the record that that one was for.
  *     2. keeper_perform. When it returns 0, the page has moved: the request is booked, the answer is the current record
  *        and the one before is current no more. If it returns 6, 9, 10 or 11, nothing is booked and nothing has
- *        changed; note that. At any other number, or if no answer came back, do as after a restart: the request may be
- *        booked.
+ *        changed; note that. At any other number, or if no answer came back, the request may be booked: do as after a
+ *        restart, but only once the call can no longer be carried out. (If it goes over a wire, end the link or restart
+ *        the controller: a perform that comes late books a request that was reported as not booked.)
  *     3. The answer is stored in place of the other record: never over the one that the request is for.
- *     4. The request is noted as booked, and as the last one booked, with the answer's summary. Only now may anybody be
- *        told so.
+ *     4. The request is noted as booked, with the answer's summary, and is kept as the last one booked, with the
+ *        summary of the record that it was for. Only now may anybody be told so.
  *     So the record before and its request stay until the next answer has been stored. They are what keeper_repeat
  *     gives a lost or damaged answer back from.
  *
@@ -60,8 +61,12 @@
  *
  *   A refusal of keeper_repeat alone says nothing: with the current record it gives KEEPER_REFUSED_CURRENT for a
  *   request that is booked, and with a damaged one another number. And with another record it may accept a request that
- *   is not booked, since an earlier one asked the same. An outcome that was noted holds as long as the current record
- *   has the summary that was noted with it; else the note is an older one, and tells nothing.
+ *   is not booked, since an earlier one asked the same.
+ *
+ *   An outcome that was noted holds as long as the current record has the summary that was noted with it. If it has
+ *   another, the note is an older one. Then, and if the note is lost or damaged, it can't be told either: take no
+ *   request, unless the first record (its summary is zero) is the current one, and so nothing is booked. What somebody
+ *   has found out is noted with the current record's summary.
  *
  * Power cuts
  *

@@ -85,7 +85,7 @@ static int read_words(const struct known *known, int count, char **words, struct
     if (asked->number != 0)
         return not_understood("-n", "is for a request");
     if (known->command == COMMAND_SETTLE)
-        return read_number(words[0], 0, MOST_REQUESTS, &asked->number);
+        return read_number(words[0], 0, MOST_REQUESTS - 1, &asked->number);
     if (count == 0)
         return 0;
     asked->one_rack = 1;

@@ -1,7 +1,7 @@
 /*
- * A note in bytes: length 2, version 1, outcome 1, refusal 1, number 8, request 10, stands 32, whether something is
- * booked 1, the request booked 10, the summary that it was booked on 32, and a checksum 4 over all that precedes it.
- * The checksum tells damage, not malice: who can write the note can write another.
+ * A note in bytes: length 2, version 1, outcome 1, refusal 1, number 8, least 8, request 10, stands 32, whether
+ * something is booked 1, the request booked 10, the summary that it was booked on 32, and a checksum 4 over all that
+ * precedes it. The checksum tells damage, not malice: who can write the note can write another.
  */
 #include "note.h"
 
@@ -58,6 +58,7 @@ void note_write(const struct note *n, uint8_t *bytes)
     at = put(at, 1, n->outcome);
     at = put(at, 1, n->refusal);
     at = put(at, 8, n->number);
+    at = put(at, 8, n->least);
     at = put_bytes(at, n->request, KEEPER_REQUEST_SIZE);
     at = put_bytes(at, n->stands, KEEPER_SUMMARY_SIZE);
     at = put(at, 1, n->booked_there != 0);
@@ -85,6 +86,7 @@ int note_read(struct note *n, const uint8_t *bytes, size_t len)
     at = get(at, 1, &refusal);
     n->refusal = (uint8_t)refusal;
     at = get(at, 8, &n->number);
+    at = get(at, 8, &n->least);
     at = get_bytes(at, n->request, KEEPER_REQUEST_SIZE);
     at = get_bytes(at, n->stands, KEEPER_SUMMARY_SIZE);
     at = get(at, 1, &there);

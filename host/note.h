@@ -20,8 +20,9 @@ struct note {
     enum outcome outcome;
     uint8_t refusal; /* the keeper's number if the request is refused, else 0 */
     uint64_t number;
+    uint64_t least; /* of a settled number: the least that it can be */
     uint8_t request[KEEPER_REQUEST_SIZE];
-    /* The page's summary when this was noted: of a pending request, that of the record that it is for. */
+    /* The current record's summary when this was noted: of a pending request, that of the record that it is for. */
     uint8_t stands[KEEPER_SUMMARY_SIZE];
     /* The last request booked, if there is one, and the summary of the record that it was for. */
     int booked_there;
@@ -30,7 +31,7 @@ struct note {
 };
 
 /* The bytes of a note. No other file of a site has this size. */
-enum { NOTE_SIZE = 102 };
+enum { NOTE_SIZE = 110 };
 
 void note_write(const struct note *n, uint8_t *bytes);
 

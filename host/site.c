@@ -32,7 +32,8 @@ static const char help[] =
     "    -n NUMBER                      take the request only if this is its number\n"
     "    -h, --help; --version\n"
     "\n"
-    "Racks are 0 to 15. Amounts are in ampere-seconds, at most 100,000,000. The files are their owner's alone.\n"
+    "Racks are 0 to 15. Amounts are in ampere-seconds, at most 100,000,000. The files are their owner's alone; keep\n"
+    "the directory so too.\n"
     "\n"
     "A request's number is one above the count of those booked before it, whoever gave them; one that is not booked\n"
     "leaves its number to the next. Know the number that yours will have: 'status' shows the last one. If you have no\n"
@@ -141,7 +142,7 @@ static int run_open(void)
     if (status == 0)
         printf("The book is open: nothing is booked yet.\n");
     else if (status == BOOK_NO_RECORD)
-        printf("What is stored here is of another page than a fresh one.\n");
+        printf("What is stored here is not of a fresh page. If nothing was booked here, take it away.\n");
     else if (status != BOOK_FAILED)
         say_refused((uint32_t)status);
     return status;
@@ -247,17 +248,17 @@ static int run_settle(const struct asked *asked)
 {
     struct book b;
     int status = start(&b);
-    uint64_t least = b.told == TOLD_SETTLED ? 1 : book_least_count(&b);
+    uint64_t least = book_least_count(&b);
 
     if (status != 0)
         return status;
     if (b.told != CANT_BE_TOLD && b.told != TOLD_SETTLED) {
-        printf("There is nothing to settle. Request ");
+        printf("There is nothing to settle.\nrequest  ");
         say_told(&b);
         return asked->number == book_count(&b) ? 0 : SITE_OTHER_NUMBER;
     }
     if (asked->number < least) {
-        printf("Not settled: at least %llu are booked.\n", (unsigned long long)least);
+        printf("Not settled: the last one booked has the number %llu or one above.\n", (unsigned long long)least);
         return SITE_OTHER_NUMBER;
     }
     status = book_settle(&b, asked->number);

@@ -105,7 +105,7 @@ int store_replace(const char *name, const uint8_t *bytes, size_t len)
 
 /* ---- A turn: two programs on one book would each move the page that it had read. */
 
-/* The lock is on the directory itself, which no one can lose or replace, and goes when the program ends. */
+/* The lock is on the directory itself, which is not lost as a file may be, and goes when the program ends. */
 static int wait_for_turn(enum turn turn)
 {
     int kind = turn == TO_READ ? LOCK_SH : LOCK_EX;

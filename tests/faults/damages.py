@@ -27,7 +27,7 @@ WHOLE = ["book.b current", "book.a current", "the same capacity before it", "a r
 
 # A byte of each field, the first and the last of the long ones.
 PLACES = {"page": [0, 31, 32, 63], "book.a": [0, 2, 6, 78, 387, 418, 419, 450], "book.b": [1, 80, 400, 430],
-          "request": [0, 2, 3, 4, 12, 13, 16, 22, 23, 54, 55, 56, 65, 66, 97, 98, 101]}
+          "request": [0, 2, 3, 4, 12, 20, 21, 24, 30, 31, 62, 63, 64, 73, 74, 105, 106, 109]}
 
 
 # ---- Ways to damage one file, each a function of the folder, with words for it.

@@ -28,7 +28,7 @@ NOT_UNDERSTOOD = {"": "''", "fly": "'fly'", "-x view": "'-x'", "--colour view": 
                   "view x": "'x'", "view 1 2": "'view'", "open 3": "'open'", "status 3": "'status'",
                   "settle": "'settle'", "settle -1": "'-1'", "-n 0 charge 3 1": "'0'", "-n x charge 3 1": "'x'",
                   "-n 1000000000000000000 charge 3 1": "'1000000000000000000'", "-n 3 view": "'-n'",
-                  "settle 18446744073709551617": "'18446744073709551617'", "-xh": "'-x'",
+                  "settle 999999999999999999": "'999999999999999999'", "-xh": "'-x'",
                   "view -n": "'-n'", "-d": "'-d'"}
 
 # On racks 3 and 5, with 70,000 of 72,000 and 10,000 of 50,000.
@@ -132,7 +132,7 @@ def check_cleared_page():
     the first record still there, a cleared summary is a page set back.)"""
     one, four = booked(open_book(), Book(), "capacity 3 1000"), two_racks()
     unheard = answer_lost(open_book(), Book(), "capacity 3 1000")
-    for (before, _), cleared in (one, 64), (unheard, 64), (four, 64), (four, 32):
+    for (before, _), cleared in (one, 64), (unheard, 64), (unheard, 40), (four, 64), (four, 32):
         folder = copy(before)
         page = folder / "book" / "page"
         page.write_bytes(bytes(cleared) + page.read_bytes()[cleared:])
@@ -141,7 +141,10 @@ def check_cleared_page():
         was = content(folder)
         expect(run(folder, ["open"]).exit == NO_RECORD, f"a page with {cleared} bytes cleared is opened")
         expect(content(folder) == was, "open has changed a file")
-    return 8
+    alone = new_folder()
+    (alone / "book" / "page").write_bytes(bytes(64))
+    expect(run(alone, ["open"]).exit == NO_RECORD, "a page whose key nobody has made is opened")
+    return 11
 
 
 def check_open_again():
@@ -178,6 +181,7 @@ def check_settling():
     expect(content(folder) == was, "what is not settled has changed a file")
     for number in 7, 5:
         expect(run(folder, ["settle", str(number)]).exit == 0, f"{number} can't be settled, or not anew")
+        expect(run(folder, ["settle", "4"]).exit == OTHER_NUMBER, "settled anew it may be too low")
         status = run(folder, ["status"])
         expect(status.exit == 0 and told_by(status.said) is None, "what is settled is told as if it were known")
         expect(f"request  {number} is the last one booked; so it was settled" in status.said, f"it says {status.said}")
@@ -185,7 +189,7 @@ def check_settling():
     for number, end in ("6", 0), ("5", OTHER_NUMBER), ("7", OTHER_NUMBER):
         expect(run(folder, ["settle", number]).exit == end, f"{number} is settled where 6 is told")
     expect(says_booked(run(folder, ["-n", "7", "charge", "5", "1"]).said), "settle has changed what is told")
-    return 12
+    return 14
 
 
 def check_older_note():
@@ -218,7 +222,20 @@ def check_streams():
             wanted = FAILED if "1>&-" in closing and line != "fly" else expected
             expect(done.returncode == wanted, f"'{line}' ends with {done.returncode} after {closing}")
             expect(content(folder) == content(other), f"'{line}' leaves other files after {closing}")
-    return 4 * len(closings)
+    return 4 * len(closings) + check_failure_unsaid()
+
+
+def check_failure_unsaid():
+    """With all streams closed, a file that can't be written does not take the message about it."""
+    folder, _ = two_racks()
+    operations = run(copy(folder), ["charge", "5", "600"]).operations
+    for at in (i + 1 for i, operation in enumerate(operations) if " write " in operation):
+        other = copy(folder)
+        done = run(other, ["charge", "5", "600"], at, "fail", "0>&- 1>&- 2>&-")
+        expect(done.exit == FAILED, f"exit status {done.exit} where a file could not be written")
+        written = b"".join(file.read_bytes() for file in (other / "book").iterdir())
+        expect(b"site:" not in written, f"a message is in a file: {operations[at - 1]}")
+    return 4
 
 
 def check_read_only():

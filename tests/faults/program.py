@@ -78,13 +78,14 @@ class Run:
     operations: list
 
 
-def run(folder, words, at=0, way=""):
+def run(folder, words, at=0, way="", closing=""):
+    """Runs the program, with a cut or a fault at an operation, and with streams closed as a shell would close them."""
     setting.runs += 1
     log = folder / "room" / "log"
     log.unlink(missing_ok=True)
     env = {"LD_PRELOAD": setting.shim, "FAULTS_LOG": "../room/log", "FAULTS_ROOM": "../room"}
     env.update(FAULTS_AT=str(at), FAULTS_WAY=way)
-    call = [setting.site, *words]
+    call = ["/bin/sh", "-c", f'exec "$0" "$@" {closing}', setting.site, *words] if closing else [setting.site, *words]
     try:
         done = subprocess.run(call, cwd=folder / "book", env=env, capture_output=True, text=True, timeout=LONGEST)
     except subprocess.TimeoutExpired:

@@ -203,6 +203,7 @@ static int note_pending(struct book *b, const uint8_t *request)
     n->outcome = OUTCOME_PENDING;
     n->refusal = 0;
     n->number = count + 1;
+    n->least = 0;
     memcpy(n->request, request, KEEPER_REQUEST_SIZE);
     note_stands(b);
     return store_note(n);

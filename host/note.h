@@ -20,7 +20,7 @@ struct note {
     enum outcome outcome;
     uint8_t refusal; /* the keeper's number if the request is refused, else 0 */
     uint64_t number;
-    uint64_t least; /* of a settled number: the least that it can be */
+    uint64_t least; /* if the number is settled, the least that it can be, else 0 */
     uint8_t request[KEEPER_REQUEST_SIZE];
     /* The current record's summary when this was noted: of a pending request, that of the record that it is for. */
     uint8_t stands[KEEPER_SUMMARY_SIZE];

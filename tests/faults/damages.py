@@ -1,4 +1,4 @@
-"""Damages files of a book in every situation, and holds what status says to what is true.
+"""Damages files of a book as commands and cuts leave it, and holds what status says to what is true.
 
 A file has a byte bent, is cut short or grows, is lost, or is overwritten by or swapped with another; or the note is
 set back to one from before the page last moved. Then status says of the last request 'booked' or 'not booked' only if
@@ -13,8 +13,8 @@ import shutil
 
 from model import CAPACITY
 from program import (AT_ITS_END, NO_RECORD, UNTOLD, Failure, check_stored, check_view, content, copy, expect, run,
-                     says_none_booked, setting, status_of, told_by)
-from scenarios import answer_lost, booked, pending, refused, situations
+                     says_none_booked, setting, settled_by, status_of, told_by)
+from scenarios import answer_lost, booked, pending, refused, settled, situations
 
 FILES = ["page", "book.a", "book.b", "request"]
 
@@ -99,15 +99,18 @@ def damages(folder, older):
 # ---- What is held to be so.
 
 
-def check_told(folder, book, status):
+def check_told(book, status):
     """What status says is true."""
-    told = told_by(status.said)
+    told, number = told_by(status.said), settled_by(status.said)
     if told is not None:
         expect(told == book.told(), f"status says {told}, and true is {book.told()}")
         return ("booked" if told[1] else "not booked") if told[0] else "none given"
     if says_none_booked(status.said):
         expect(book.count == 0, "status says that nothing is booked")
         return "none booked"
+    if number is not None:
+        expect(number == book.count, f"status says that {number} was settled")
+        return "settled"
     shown = re.search(r"^request  (?:(\d+) \((.*)\)|its note is (?:lost|damaged)|the note does not fit what is "
                       r"stored): it can't be told ", status.said, re.M)
     expect(shown or (status.exit == NO_RECORD and "request  " not in status.said), f"status says {status.said}")
@@ -138,7 +141,7 @@ def check_damage(folder, book, damage):
     damage(folder / "book")
     setting.restarts += 1
     status = run(folder, ["status"], AT_ITS_END)
-    said = check_told(folder, book, status)
+    said = check_told(book, status)
     if status.exit == 0:
         check_taken(folder, book)
     else:
@@ -161,6 +164,8 @@ def all_situations():
     there["a request booked, an equal one refused"] = refused(*booked(*on_a, "charge 3 2000"), "charge 3 2000")
     there["a request refused, an equal one pending"] = pending(*refused(*on_a, "charge 3 2001"), "charge 3 2001")
     there["a new book, a request pending"] = pending(*there["a new book"], "capacity 3 72000")
+    there["a number settled"] = settled(*on_a)
+    there["a number settled, the next request pending"] = pending(*there["a number settled"], "charge 5 7")
     there["an answer recovered, the next request pending"] = pending(*answer_lost(*on_a, "charge 5 600"), "charge 5 7")
     return there
 

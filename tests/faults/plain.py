@@ -9,8 +9,8 @@ import time
 
 from model import Book
 from program import (FAILED, NO_RECORD, OTHER_NUMBER, UNTOLD, USAGE, check_stored, check_view, content, copy, expect,
-                     new_folder, run, says_booked, setting, status_of, table_of, told_by)
-from scenarios import KINDS, answer_lost, answer_stored, asked_by, booked, open_book, pending
+                     new_folder, run, says_booked, setting, settled_by, status_of, table_of, told_by)
+from scenarios import KINDS, answer_lost, asked_by, booked, older_record_lost, open_book, pending
 
 HEADER = pathlib.Path(__file__).resolve().parents[2] / "host" / "keeper.h"
 
@@ -162,19 +162,9 @@ def check_open_again():
 # ---- Settling.
 
 
-def older_record_lost():
-    """A request booked and not noted, and the record that it was for lost: it can't be told."""
-    folder, book = answer_stored(*two_racks(), "charge 5 600")
-    key = (folder / "book" / "page").read_bytes()[32:]
-    for file in (folder / "book").glob("book.?"):
-        if file.read_bytes() != book.record(key):
-            file.unlink()
-    return folder
-
-
 def check_settling():
     """What can't be told is settled by a number that is not too low, and the count goes on behind that."""
-    folder = older_record_lost()
+    folder, _ = older_record_lost(*two_racks(), "charge 5 600")
     was = content(folder)
     for number in 0, 3, 4:
         expect(run(folder, ["settle", str(number)]).exit == OTHER_NUMBER, f"{number} is settled where 5 are booked")
@@ -184,7 +174,7 @@ def check_settling():
         expect(run(folder, ["settle", "4"]).exit == OTHER_NUMBER, "settled anew it may be too low")
         status = run(folder, ["status"])
         expect(status.exit == 0 and told_by(status.said) is None, "what is settled is told as if it were known")
-        expect(f"request  {number} is the last one booked; so it was settled" in status.said, f"it says {status.said}")
+        expect(settled_by(status.said) == number, f"status says {status.said}")
     expect(says_booked(run(folder, ["-n", "6", "charge", "5", "1"]).said), "the count does not go on")
     for number, end in ("6", 0), ("5", OTHER_NUMBER), ("7", OTHER_NUMBER):
         expect(run(folder, ["settle", number]).exit == end, f"{number} is settled where 6 is told")

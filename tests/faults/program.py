@@ -113,6 +113,12 @@ def says_none_booked(said):
     return re.search("^request  none is booked; the note of what was given is (lost|damaged)$", said, re.M) is not None
 
 
+def settled_by(said):
+    """The number that status says was settled, or None."""
+    found = re.search(r"^request  (\d+) is the last one booked; so it was settled$", said, re.M)
+    return int(found[1]) if found else None
+
+
 def status_of(folder):
     """What status says of the last request; the cut at its end takes nothing of it back."""
     setting.restarts += 1

@@ -115,6 +115,23 @@ def damaged(folder, book):
     return folder, book
 
 
+def older_record_lost(folder, book, line):
+    """A request booked and not noted, and the record that it was for lost: it can't be told."""
+    folder, book = answer_stored(folder, book, line)
+    for file in (folder / "book").glob("book.?"):
+        if file.read_bytes() != book.record(page_of(folder)[1]):
+            file.unlink()
+    return folder, book
+
+
+def settled(folder, book):
+    """With the note lost, and the true number settled."""
+    folder = copy(folder)
+    (folder / "book" / "request").unlink()
+    expect(run(folder, ["settle", str(book.count)]).exit == 0, "the true number can't be settled")
+    return folder, book
+
+
 def situations():
     """Books as commands and cuts leave them, by a name."""
     opened = open_book(), Book()

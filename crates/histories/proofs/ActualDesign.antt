@@ -1,4 +1,4 @@
--- An actual design has what the argument asks of a design: that of `specs/Witness.antt`, with a stand-in for the hash that collides.
+-- An actual design has what the argument asks of a design: that of `specs/Toy.antt`, with a stand-in for the hash that collides.
 -- Assumes nothing.
 use mathlib.Core.Path.{_≡_, refl, ap}
 use Prim.Native.Nat.{ℕ}
@@ -7,10 +7,14 @@ use lib.ListN.{length, drop, length-append}
 use Rattle.numbers.specs.Parts.{part}
 use Rattle.numbers.proofs.Numbers.{length-bytesOf}
 use Rattle.records.specs.Page.{hashSize, zeroSummary}
+use Rattle.records.specs.Record.{stateBytes}
+use Rattle.records.proofs.RecordBytes.{length-record}
+use Rattle.answers.proofs.States.{record-good, served-good}
 use Rattle.histories.specs.Runs.{Fresh}
 use Rattle.histories.specs.Laws.{Laws}
-use Rattle.histories.specs.Witness.{toyHash, toy, fresh}
-use Rattle.histories.proofs.EditionLaws.{summary-is-32, page-stays-right, summary-is-put, key-stays}
+use Rattle.histories.specs.Ties.{NumberLaws}
+use Rattle.histories.specs.Toy.{toyHash, toy, fresh}
+use Rattle.histories.proofs.EditionLaws.{summary-is-32, page-stays-right, summary-is-put, key-stays, early-numbers, behind-numbers}
 
 length-toyHash : (m : List ℕ) → length (toyHash m) ≡ hashSize
 unfolding toyHash
@@ -25,7 +29,12 @@ toy-laws =
       right-page = page-stays-right;
       page-summary = summary-is-put;
       page-mac = λ page s bound right long. ap (λ (key : List ℕ). toyHash (key ++ bound)) (key-stays page s right long);
+      length-next = λ page l request state passed serves.
+          length-record 1 1 state _ _ (served-good 1 (stateBytes 1 l) request state (record-good 1 1 l passed) serves .size) (length-toyHash _) (length-toyHash _);
     }
+
+pub toy-numbers : NumberLaws toy
+toy-numbers = record { early = early-numbers 1 1; behind = behind-numbers 1 }
 
 pub fresh-is : Fresh toy fresh
 unfolding zeroSummary part

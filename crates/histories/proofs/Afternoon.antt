@@ -1,7 +1,8 @@
 -- The afternoon: no summary that the page has held returns after it has moved on, and a record for such a summary is turned away. The
--- idea: at both moments the page stands at the end of a path, and equal ends have equal paths. Assumes nothing.
+-- idea: at both moments the page stands at the end of a path, and equal ends have equal paths. Nothing is asked of authenticators.
+-- Assumes nothing.
 use mathlib.Core.Path.{_≡_, refl, sym, ap, _∙_}
-use mathlib.Core.Bool.{Bool, true, false}
+use mathlib.Core.Bool.{Bool, true, false, false≢true}
 use Prim.Native.Nat.{ℕ}
 use mathlib.Core.List.{List, []}
 use Rattle.numbers.specs.Comparing.{same}
@@ -14,13 +15,14 @@ use Rattle.answers.specs.Design.{Design, Served}
 use Rattle.answers.specs.Hashing.{nextSummary, valid}
 use Rattle.answers.specs.Judging.{unless, andThen, Verdict, stale, judged, offered, looked, shown, performVerdict, viewVerdict, resumeVerdict}
 use Rattle.answers.specs.Answers.{refusal, answeredBy, performed, viewedBy, viewed, isGood}
-use Rattle.histories.specs.Runs.{Run, Fresh, pageAfter}
+use Rattle.histories.specs.Runs.{Run, Fresh, pageAfter, movedBefore}
 use Rattle.histories.specs.Laws.{Laws}
-use Rattle.histories.specs.Premises.{FewerPremises, movedBefore}
+use Rattle.histories.specs.Premises.{FewerHashPremise}
 use Rattle.histories.specs.Statements.{NoSummaryReturns, OldRecordsAreTurnedAway}
 use Rattle.histories.proofs.Paths.{one-path}
-use Rattle.histories.proofs.Verdicts.{stale-judged}
-use Rattle.histories.proofs.Moments.{neededIn, at-moment}
+use Rattle.histories.proofs.Verdicts.{stale-judged, ram-good, disk-good}
+use Rattle.histories.proofs.Invariant.{neededIn}
+use Rattle.histories.proofs.Moments.{stands-at}
 
 -- ---- a record that is not current
 
@@ -49,20 +51,21 @@ unfolding viewed viewVerdict
 stale-view D page l rack tests seven eight =
     ap (λ (v : Verdict). viewedBy D rack v .number) (judged-stale (shown D (D .stateBytes l) rack) tests seven eight)
 
-stale-resume : (D : Design) (page l : List ℕ) → same (D .summary l) (D .pageSummary page) ≡ false → isGood (resumeVerdict D page l) ≡ false
+stale-resume : (D : Design) (page l : List ℕ) → same (D .summary l) (D .pageSummary page) ≡ false → isGood (resumeVerdict D page l) ≡ true → ⊥
 unfolding resumeVerdict
-stale-resume D page l eight =
-    rw eight (stale-judged (andThen (unless (D .rightPage page) Page) (D .tested l)) (valid D page l) (Served.carried (D .stateBytes l)))
+stale-resume D page l eight good =
+    let never = stale-judged (andThen (unless (D .rightPage page) Page) (D .tested l)) (valid D page l) (Served.carried (D .stateBytes l)) in
+    false≢true (sym never ∙ (rw eight at good))
 
 -- ---- the run
 
-module _ (D : Design) (laws : Laws D) (fresh : List ℕ) (f : Fresh D fresh) (run : Run) (p : FewerPremises D fresh run) where
+module _ (D : Design) (laws : Laws D) (fresh : List ℕ) (f : Fresh D fresh) (run : Run) (clear : FewerHashPremise D fresh run) where
   pub no-summary-returns : NoSummaryReturns D fresh run
   no-summary-returns newer older e back =
-      let now = at-moment D laws fresh f run [] run p refl in
-      let then = at-moment D laws fresh f run newer older p e in
-      one-path D laws (neededIn D fresh run) (p .hashes) (movedBefore D fresh run) (movedBefore D fresh older) (now .walked) (then .walked)
-      (sym (now .stands) ∙ back ∙ then .stands)
+      let now = stands-at D laws fresh f run [] run refl in
+      let then = stands-at D laws fresh f run newer older e in
+      one-path D laws (neededIn D fresh run) clear (movedBefore D fresh run) (movedBefore D fresh older) (now .walked) (then .walked)
+      (sym (now .ends) ∙ back ∙ then .ends)
 
   pub old-records-turned-away : OldRecordsAreTurnedAway D fresh run
   old-records-turned-away newer older e on l of =
@@ -72,5 +75,6 @@ module _ (D : Design) (laws : Laws D) (fresh : List ℕ) (f : Fresh D fresh) (ru
       record {
         perform = λ request answer tests seven. stale-perform D page l request answer tests seven old;
         view = λ rack tests seven. stale-view D page l rack tests seven old;
-        resume = stale-resume D page l old;
+        inRam = λ onDisk ram. stale-resume D page l old (ram-good D page l onDisk ram);
+        onDisk = λ inRam disk. stale-resume D page l old (disk-good D page inRam l disk);
       }

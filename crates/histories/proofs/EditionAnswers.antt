@@ -6,16 +6,15 @@ use native.Mathlib.Omega.{arith}
 use mathlib.Core.List.{List, [], _∷_}
 use Rattle.records.specs.declared.Tested.{Tested}
 use Rattle.records.specs.declared.Tested.the-variants.{Passed, Refused}
-use Rattle.records.specs.Record.{summary}
 use Rattle.answers.specs.Design.{Design, Served}
-use Rattle.answers.specs.Hashing.{binding, bindingIn}
+use Rattle.answers.specs.Hashing.{nextSummary, binding, bindingIn}
 use Rattle.answers.specs.Judging.{Verdict, early, forged, stale, barred, good, performVerdict, repeatVerdict}
-use Rattle.answers.specs.Answers.{openTests, openedBy, opened, answeredBy, performed, repeated}
+use Rattle.answers.specs.Answers.{openTests, openedBy, opened, Performed, answeredBy, performed, repeated}
 use Rattle.answers.specs.Edition.{design}
-use Rattle.answers.specs.Written.{front, Reads}
+use Rattle.answers.specs.Written.{front, Reads, Answered}
 use Rattle.answers.proofs.ReadsBack.{reads-back}
-use Rattle.histories.specs.Effects.{answeredIn, openAnswered}
-use Rattle.histories.specs.Statements.{Counted, AnswersAreCounted}
+use Rattle.histories.specs.Did.{openDid, performDid, repeatDid}
+use Rattle.histories.specs.Ties.{WhereAccepted, AnswersAreCounted}
 use Rattle.histories.proofs.Verdicts.{perform-good, repeat-good, some-number}
 
 -- a record that reads as a state and a summary has their binding
@@ -26,53 +25,51 @@ reads-bound D page l state summary r = rw (r .summaryIs, r .stateIs) refl
 one-state : {s : Served} {a b : List ℕ} → s ≡ Served.carried a → s ≡ Served.carried b → a ≡ b
 one-state p q = cc
 
+-- what perform or repeat has answered has the binding of the state that the service gives
+answered-bound : (D : Design) (l request answer state : List ℕ) (p : Performed) → D .served (D .stateBytes l) request ≡ Served.carried state → Answered D l request answer p
+    → binding D (nextSummary D (D .summary l) request) state ∷ [] ≡ bindingIn D (front D (p .answer)) ∷ []
+answered-bound D l request answer state p serves a =
+    let is : state ≡ a .state = one-state serves (a .carries) in rw is (reads-bound D _ _ _ _ (a .wrote .reads))
+
 -- what counts, by the tests of open and by the verdict of perform and repeat, if the accepted call's record has the binding that counts
-open-counted : (D : Design) (page answer : List ℕ) (t : Tested) (written : List ℕ)
-    → (t ≡ Passed → openAnswered D Passed ≡ bindingIn D (front D written) ∷ []) → Counted D (openedBy D page answer t .number) written (openAnswered D t)
-open-counted D page answer Passed written is = record { accepted = λ zero. is refl; refused = λ other. absurd (other refl) }
-open-counted D page answer (Refused r) written is =
-    record { accepted = λ zero. absurd (omega (arith, some-number r)); refused = λ other. refl }
+module _ (D : Design) (page : List ℕ) where
+  open-counted : (after answer bound : List ℕ) (t : Tested) → (t ≡ Passed → openDid D after Passed .answered ≡ bound ∷ [])
+      → WhereAccepted (openedBy D page answer t .number) bound (openDid D after t .answered)
+  open-counted after answer bound Passed is = record { accepted = λ zero. is refl; refused = λ other. absurd (other refl) }
+  open-counted after answer bound (Refused r) is = record { accepted = λ zero. absurd (omega (arith, some-number r)); refused = λ other. refl }
 
-answer-counted : (D : Design) (page l request answer after : List ℕ) (v : Verdict) (written : List ℕ)
-    → ((state : List ℕ) → v ≡ good state → answeredIn D l request (good state) ≡ bindingIn D (front D written) ∷ [])
-    → Counted D (answeredBy D page l request answer after v .number) written (answeredIn D l request v)
-answer-counted D page l request answer after (good state) written is = record { accepted = λ zero. is state refl; refused = λ other. absurd (other refl) }
-answer-counted D page l request answer after (early r) written is =
-    record { accepted = λ zero. absurd (omega (arith, some-number r)); refused = λ other. refl }
-answer-counted D page l request answer after forged written is = record { accepted = λ zero. absurd (omega arith); refused = λ other. refl }
-answer-counted D page l request answer after stale written is = record { accepted = λ zero. absurd (omega arith); refused = λ other. refl }
-answer-counted D page l request answer after (barred r) written is =
-    record { accepted = λ zero. absurd (omega (arith, some-number r)); refused = λ other. refl }
+  perform-counted : (left l request answer after bound : List ℕ) (v : Verdict)
+      → ((state : List ℕ) → v ≡ good state → binding D (nextSummary D (D .summary l) request) state ∷ [] ≡ bound ∷ [])
+      → WhereAccepted (answeredBy D page l request answer after v .number) bound (performDid D left l request v .answered)
+  perform-counted left l request answer after bound (good state) is = record { accepted = λ zero. is state refl; refused = λ other. absurd (other refl) }
+  perform-counted left l request answer after bound (early r) is =
+      record { accepted = λ zero. absurd (omega (arith, some-number r)); refused = λ other. refl }
+  perform-counted left l request answer after bound forged is = record { accepted = λ zero. absurd (omega arith); refused = λ other. refl }
+  perform-counted left l request answer after bound stale is = record { accepted = λ zero. absurd (omega arith); refused = λ other. refl }
+  perform-counted left l request answer after bound (barred r) is =
+      record { accepted = λ zero. absurd (omega (arith, some-number r)); refused = λ other. refl }
 
-module _ (n v : ℕ) (page : List ℕ) where
-  by-open : (answer : List ℕ) → Counted (design n v) (opened (design n v) page answer .number) (opened (design n v) page answer .answer)
-      (openAnswered (design n v) (openTests (design n v) page answer))
-  unfolding opened
-  by-open answer =
-      open-counted (design n v) page answer (openTests (design n v) page answer) (opened (design n v) page answer .answer)
-      (λ passed. reads-bound (design n v) _ _ _ _ (reads-back n v .opens page answer (rw passed refl) .1 .reads))
+-- perform and repeat answer alike
+answer-alike : (D : Design) (left l request : List ℕ) (v : Verdict) → repeatDid D left l request v .answered ≡ performDid D left l request v .answered
+answer-alike D left l request (early r) = refl
+answer-alike D left l request forged = refl
+answer-alike D left l request stale = refl
+answer-alike D left l request (barred r) = refl
+answer-alike D left l request (good state) = refl
 
-  by-perform : (l request answer : List ℕ) → Counted (design n v) (performed (design n v) page l request answer .number)
-      (performed (design n v) page l request answer .answer) (answeredIn (design n v) l request (performVerdict (design n v) page l request answer))
-  unfolding performed
-  by-perform l request answer =
-      answer-counted (design n v) page l request answer _ (performVerdict (design n v) page l request answer) (performed (design n v) page l request answer .answer)
-      (λ state e.
-      let a = reads-back n v .performs page l request answer (rw e refl) in
-      let serves = perform-good (design n v) page l request answer state e in
-      let is : state ≡ a .state = one-state serves (a .carries) in
-      rw is (reads-bound (design n v) _ _ _ _ (a .wrote .reads)))
-
-  by-repeat : (l request answer : List ℕ) → Counted (design n v) (repeated (design n v) page l request answer .number)
-      (repeated (design n v) page l request answer .answer) (answeredIn (design n v) l request (repeatVerdict (design n v) page l request answer))
-  unfolding repeated
-  by-repeat l request answer =
-      answer-counted (design n v) page l request answer _ (repeatVerdict (design n v) page l request answer) (repeated (design n v) page l request answer .answer)
-      (λ state e.
-      let a = reads-back n v .repeats page l request answer (rw e refl) in
-      let serves = repeat-good (design n v) page l request answer state e in
-      let is : state ≡ a .state = one-state serves (a .carries) in
-      rw is (reads-bound (design n v) _ _ _ _ (a .wrote .reads)))
-
-  pub answers-are-counted : AnswersAreCounted (design n v) page
-  answers-are-counted = record { byOpen = by-open; byPerform = by-perform; byRepeat = by-repeat }
+pub answers-are-counted : (n v : ℕ) (page : List ℕ) → AnswersAreCounted (design n v) page
+unfolding opened performed repeated
+answers-are-counted n v page =
+    let D = design n v in
+    record {
+      byOpen = λ answer.
+          open-counted D page (opened D page answer .page) answer _ (openTests D page answer)
+          (λ passed. reads-bound D _ _ _ _ (reads-back n v .opens page answer (rw passed refl) .1 .reads));
+      byPerform = λ l request answer.
+          perform-counted D page (performed D page l request answer .page) l request answer _ _ (performVerdict D page l request answer)
+          (λ state e. answered-bound D l request answer state _ (perform-good D page l request answer state e) (reads-back n v .performs page l request answer (rw e refl)));
+      byRepeat = λ l request answer.
+          rw (answer-alike D (repeated D page l request answer .page) l request (repeatVerdict D page l request answer))
+          (perform-counted D page (repeated D page l request answer .page) l request answer _ _ (repeatVerdict D page l request answer)
+          (λ state e. answered-bound D l request answer state _ (repeat-good D page l request answer state e) (reads-back n v .repeats page l request answer (rw e refl))));
+    }

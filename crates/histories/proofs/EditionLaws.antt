@@ -1,8 +1,9 @@
--- The design that ships, at any number of racks and any version, has what the argument asks of a design: a hash takes 32 bytes, and
--- summaries are read where they are written. The hash itself stays closed. Assumes nothing.
-use mathlib.Core.Path.{_≡_, refl, ap}
+-- The design that ships, at any number of racks and any version, has what the argument asks of a design: a hash takes 32 bytes, summaries
+-- are read where they are written, records are of their size, and refusals have the numbers of their tests. The hash itself stays closed.
+-- Assumes nothing.
+use mathlib.Core.Path.{_≡_, refl, sym, ap, _∙_}
 use mathlib.Core.Bool.{Bool, true, false, cond}
-use Prim.Native.Nat.{ℕ, _+_}
+use Prim.Native.Nat.{ℕ, _+_, _<_}
 use native.Mathlib.Omega.{arith}
 use mathlib.Core.List.{List, []}
 use lib.ListN.{length, drop}
@@ -10,17 +11,32 @@ use lib.Dec.{eqb}
 use borrow.Author.Tests.{eqb-true, eq-eqb}
 use Rattle.numbers.specs.Parts.{over}
 use Rattle.numbers.proofs.Parts.{length-part}
-use Rattle.refusals.specs.declared.Refusal.the-variants.{Record, Version, State}
+use Rattle.refusals.specs.declared.Refusal.{Refusal}
+use Rattle.refusals.specs.declared.Refusal.the-variants.{Record, Version, State, Authenticator, Current, Capacity, Stored, Limit}
+use Rattle.refusals.specs.Numbers.{numberOf}
+use Rattle.racks.specs.Layout.{stateOf}
+use Rattle.requests.specs.Formed.{wellFormed}
+use Rattle.requests.specs.Requests.{requestOf, readRequest}
+use Rattle.rules.specs.declared.Verdict.{Verdict}
+use Rattle.rules.specs.declared.Verdict.the-variants.{Free, Barred}
+use Rattle.rules.specs.Rules.{overCapacity, overStored, overLimit, verdict, carryOut}
+use Rattle.rules.specs.Replay.{byVerdict, book}
 use Rattle.records.specs.declared.Tested.the-variants.{Passed, Refused}
 use Rattle.records.specs.Page.{hashSize, pageSize, pageSummary, pageKey}
-use Rattle.records.specs.Record.{stateSize, summary, rightSize, rightVersion, rightState}
+use Rattle.records.specs.Record.{stateSize, stateBytes, summary, rightSize, rightVersion, rightState}
 use Rattle.records.specs.Tests.{tested}
 use Rattle.records.proofs.Headers.{right-length}
 use Rattle.sha256.proofs.DigestLaws.{length-sha256}
 use Rattle.bindings.specs.Hashed.{authenticatorOf}
-use Rattle.answers.specs.Edition.{design}
+use Rattle.answers.specs.Design.{Served}
+use Rattle.answers.specs.Hashing.{nextSummary}
+use Rattle.answers.specs.Edition.{inBytes, servedBytes, design}
 use Rattle.answers.proofs.Pages.{summary-put, key-put, length-put}
+use Rattle.answers.proofs.Records.{length-bound}
+use Rattle.answers.proofs.ReadsBack.{length-next}
+use Rattle.answers.proofs.States.{record-good, served-good}
 use Rattle.histories.specs.Laws.{Laws}
+use Rattle.histories.specs.Ties.{NumberLaws}
 
 -- ---- a record that passes its tests has a summary of 32 bytes
 
@@ -58,4 +74,39 @@ laws n v =
       right-page = page-stays-right;
       page-summary = summary-is-put;
       page-mac = λ page s bound right long. ap (λ (key : List ℕ). authenticatorOf key [] bound) (key-stays page s right long);
+      length-next = λ page l request state passed serves.
+          length-bound n v page (nextSummary (design n v) (summary n l) request) state (length-next n v (summary n l) request)
+          (served-good n (stateBytes n l) request state (record-good n v l passed) serves .size);
     }
+
+-- ---- the numbers of refusals
+
+early-number : (size version state : Bool) (r : Refusal) → cond size (cond version (cond state Passed (Refused State)) (Refused Version)) (Refused Record) ≡ Refused r
+    → numberOf r < numberOf Authenticator
+early-number true true true r e = let z : _≡_ {A = ℕ} 0 1 = cc in absurd (omega arith)
+early-number true true false r e = let is : State ≡ r = cc in rw (sym is) (omega arith)
+early-number true false state r e = let is : Version ≡ r = cc in rw (sym is) (omega arith)
+early-number false version state r e = let is : Record ≡ r = cc in rw (sym is) (omega arith)
+
+behind-number : (capacity stored limit : Bool) (state : _) (r : Refusal)
+    → inBytes (byVerdict (cond capacity (Barred Capacity) (cond stored (Barred Stored) (cond limit (Barred Limit) Free))) state) ≡ Served.barred r
+    → numberOf Current < numberOf r
+behind-number true stored limit state r e = let is : Capacity ≡ r = cc in rw (sym is) (omega arith)
+behind-number false true limit state r e = let is : Stored ≡ r = cc in rw (sym is) (omega arith)
+behind-number false false true state r e = let is : Limit ≡ r = cc in rw (sym is) (omega arith)
+behind-number false false false state r e = let z : _≡_ {A = ℕ} 0 1 = cc in absurd (omega arith)
+
+pub early-numbers : (n v : ℕ) (l : List ℕ) (r : Refusal) → tested n v l ≡ Refused r → numberOf r < numberOf Authenticator
+unfolding tested
+early-numbers n v l r e = early-number (rightSize n l) (rightVersion n v l) (rightState n l) r e
+
+pub behind-numbers : (n : ℕ) (state request : List ℕ) (r : Refusal) → wellFormed n request ≡ true → servedBytes n state request ≡ Served.barred r
+    → numberOf Current < numberOf r
+unfolding servedBytes book readRequest verdict
+behind-numbers n state request r formed e =
+    let s = stateOf n state in
+    let q = requestOf request in
+    behind-number (overCapacity s q) (overStored s q) (overLimit s q) (carryOut s q) r (rw formed at e)
+
+pub number-laws : (n v : ℕ) → NumberLaws (design n v)
+number-laws n v = record { early = early-numbers n v; behind = behind-numbers n }

@@ -1,137 +1,135 @@
--- The invariant of every run under the premises: the page stands at the end of the path of the requests that moved it, and each binding
--- that was answered binds the end of some path to the state that the path's requests give. The answered bindings are a tree and not a
--- chain: a perform that is cut with the page of before answers a side branch. The idea: whatever a call relies on was answered, so it
--- stands at the end of such a path, and perform and repeat go one request further. Assumes nothing.
+-- The invariant of a run, in two parts. Of the page, without any premise: it is of its size and stands at the end of the path of the
+-- requests that moved it. Of what was answered, under the premises: each binding is of the end of a path and of the state that the path
+-- gives. The idea: an answer goes on from an origin that rests on a path, along a row that is put onto that path. Assumes nothing.
 use mathlib.Core.Path.{_≡_, refl, sym, ap, _∙_}
 use mathlib.Core.Bool.{true}
 use mathlib.Core.Logic.{⊎-elim}
 use Prim.Native.Nat.{ℕ}
-use mathlib.Core.List.{List, [], _∷_, _++_, List·Memᴰ, List·Memᴰ·not-nil, List·Memᴰ·append-cases, Memᴰ·append-left, Memᴰ·append-right}
+use mathlib.Core.List.{List, [], _∷_, _++_, List·Memᴰ, List·Memᴰ·head, List·Memᴰ·tail, List·Memᴰ·not-nil, List·Memᴰ·append-cases, Memᴰ·append-left, Memᴰ·append-right}
 use Rattle.records.specs.declared.Tested.the-variants.{Passed}
 use Rattle.bindings.specs.Hashed.{summaryMessage}
 use Rattle.answers.specs.Design.{Design, Served}
 use Rattle.answers.specs.Hashing.{nextSummary, boundMessage, binding, bindingIn}
-use Rattle.histories.specs.Runs.{Call, Step, Run, callOf, Fresh, pageAfterStep, pageAfter, gathered}
-use Rattle.histories.specs.Effects.{needed, relied, answered, moved, byCall}
+use Rattle.answers.specs.Rows.{servedAlong, summaryAlong, Origin, originSummary, originState}
+use Rattle.histories.specs.Did.{Did, recordMessages}
+use Rattle.histories.specs.Runs.{Run, callOf, Fresh, pageAfterStep, movedBy, pageAfter, doneBy, inRun, answeredBefore, movedBefore}
 use Rattle.histories.specs.Laws.{Laws}
-use Rattle.histories.specs.Premises.{Apart, Unforged, answeredBefore, movedBefore}
-use Rattle.histories.specs.Statements.{thenServed, replayed}
-use Rattle.histories.proofs.Paths.{endOf, Walked, length-end, one-path, one-state}
-use Rattle.histories.proofs.Inversions.{Within, Based, Taken, Led, Answer, first, next, answered-by, Moved, stays, moves, moved-by}
+use Rattle.histories.specs.Premises.{Apart, Unforged}
+use Rattle.histories.proofs.Paths.{Within, endOf, Walked, length-end, onto, end-onto, walked-onto, given, given-onto, one-path, one-state}
+use Rattle.histories.proofs.Steps.{each-before}
+use Rattle.histories.proofs.Inversions.{Based, OriginBased, Taken, Led, Answered, Moved, stays, moves, deed, moved-step}
 
--- a binding of the end of a path to the state that the path gives, all its messages being among `messages`
+-- the messages that the argument needs of a run
+abbrev pub neededIn : Design → List ℕ → Run → List (List ℕ)
+neededIn D fresh run = inRun (λ d. d .needed) D fresh run
+
+-- ---- the page
+
+pub record Standing (D : Design) (messages : List (List ℕ)) (page : List ℕ) (requests : List (List ℕ)) : Type 0 where
+  pub right : D .rightPage page ≡ true
+  pub ends : D .pageSummary page ≡ endOf D requests
+  pub walked : Walked D messages requests
+
+stands-moved : (D : Design) → Laws D → (messages : List (List ℕ)) (page : List ℕ) (requests : List (List ℕ)) (d : Did) (after : List ℕ) (moved : List (List ℕ))
+    → Standing D messages page requests → Within (d .needed) messages → Moved D page d after moved → Standing D messages after (moved ++ requests)
+stands-moved D laws messages page requests d after moved now hashed (stays same none) = rw (same, none) now
+stands-moved D laws messages page requests d after moved now hashed (moves l request state t led is one) =
+    let next = nextSummary D (D .summary l) request in
+    let long = laws .length-hash (summaryMessage (D .summary l) request) in
+    let here : D .summary l ≡ endOf D requests = t .fits .current ∙ now .ends in
+    rw (is, one) (record {
+      right = laws .right-page page next (now .right) long;
+      ends = laws .page-summary page next (now .right) long ∙ ap (λ (x : List ℕ). nextSummary D x request) here;
+      walked = (rw here at (hashed _ (led .chain _ (List·Memᴰ·head refl))), now .walked);
+    })
+
+pub stands-after : (D : Design) → Laws D → (fresh : List ℕ) → Fresh D fresh → (messages : List (List ℕ)) (run : Run) → Within (neededIn D fresh run) messages
+    → Standing D messages (pageAfter D fresh run) (movedBefore D fresh run)
+stands-after D laws fresh f messages [] hashed = record { right = f .right; ends = f .zero; walked = tt }
+stands-after D laws fresh f messages (s ∷ older) hashed =
+    let page = pageAfter D fresh older in
+    let d = doneBy D fresh older s in
+    stands-moved D laws messages page (movedBefore D fresh older) d (pageAfterStep D page s) (movedBy D page s)
+    (stands-after D laws fresh f messages older (λ x m. hashed x (Memᴰ·append-right (d .needed) m)))
+    (λ x m. hashed x (Memᴰ·append-left _ m)) (moved-step D page s)
+
+-- ---- what was answered
+
+-- a binding is of the end of a path, and of the state that the path gives, and all its messages are among `messages`
 pub record Bound (D : Design) (messages : List (List ℕ)) (bound : List ℕ) : Type 0 where
   pub path : List (List ℕ)
   pub state : List ℕ
   pub binds : bound ≡ binding D (endOf D path) state
   pub walked : Walked D messages path
-  pub gives : replayed D path ≡ Served.carried state
+  pub gives : given D path ≡ Served.carried state
   pub states : List·Memᴰ (D .stateMessage state) messages
   pub bounds : List·Memᴰ (boundMessage D (endOf D path) state) messages
 
--- the invariant: of a page, the requests that moved it and the bindings that were answered
-pub record Standing (D : Design) (messages : List (List ℕ)) (page : List ℕ) (requests bindings : List (List ℕ)) : Type 0 where
-  pub right : D .rightPage page ≡ true
-  pub stands : D .pageSummary page ≡ endOf D requests
-  pub walked : Walked D messages requests
-  pub tree : (bound : List ℕ) → List·Memᴰ bound bindings → Bound D messages bound
+abbrev pub Tree : Design → List (List ℕ) → List (List ℕ) → Type 0
+Tree D messages bindings = (bound : List ℕ) → List·Memᴰ bound bindings → Bound D messages bound
 
--- a record at the end of a path that gives its state
-pub record Rests (D : Design) (messages : List (List ℕ)) (l : List ℕ) : Type 0 where
+-- a summary and a state are those of a path
+pub record Rests (D : Design) (messages : List (List ℕ)) (summary state : List ℕ) : Type 0 where
   pub path : List (List ℕ)
-  pub summary : D .summary l ≡ endOf D path
+  pub ends : summary ≡ endOf D path
   pub walked : Walked D messages path
-  pub gives : replayed D path ≡ Served.carried (D .stateBytes l)
+  pub gives : given D path ≡ Served.carried state
 
 module _ (D : Design) (laws : Laws D) (messages : List (List ℕ)) (clear : Apart D messages) where
-  -- a record whose binding was answered rests on a path
-  pub rests-on : (page : List ℕ) (requests bindings : List (List ℕ)) → Standing D messages page requests bindings → (l : List ℕ) → D .tested l ≡ Passed
-      → List·Memᴰ (bindingIn D l) bindings → List·Memᴰ (D .stateMessage (D .stateBytes l)) messages
-      → List·Memᴰ (boundMessage D (D .summary l) (D .stateBytes l)) messages → Rests D messages l
-  rests-on page requests bindings now l tests answered states bounds =
-      let t = now .tree (bindingIn D l) answered in
-      let short = laws .length-summary l tests in
-      let long = length-end D laws messages clear (t .path) in
-      let one = one-state D laws messages clear (D .summary l) (endOf D (t .path)) (D .stateBytes l) (t .state) short long states bounds (t .states) (t .bounds) (t .binds) in
-      record { path = t .path; summary = one .0; walked = t .walked; gives = t .gives ∙ ap Served.carried (sym (one .1)) }
+  -- those of a record whose binding was answered
+  pub rests-on : (bindings : List (List ℕ)) → Tree D messages bindings → (l : List ℕ) → D .tested l ≡ Passed
+      → List·Memᴰ (bindingIn D l) bindings → Within (recordMessages D l) messages → Rests D messages (D .summary l) (D .stateBytes l)
+  rests-on bindings tree l tests answered hashed =
+      let t = tree (bindingIn D l) answered in
+      let one = one-state D laws messages clear (D .summary l) (endOf D (t .path)) (D .stateBytes l) (t .state) (laws .length-summary l tests) (length-end D laws (t .path))
+      (hashed _ (List·Memᴰ·head refl)) (hashed _ (List·Memᴰ·tail (List·Memᴰ·head refl))) (t .states) (t .bounds) (t .binds) in
+      record { path = t .path; ends = one .0; walked = t .walked; gives = t .gives ∙ ap Served.carried (sym (one .1)) }
 
-  -- if its summary is the page's, the path is that of the requests that moved the page
-  pub rests-here : (page : List ℕ) (requests bindings : List (List ℕ)) → Standing D messages page requests bindings → (l : List ℕ)
-      → Rests D messages l → D .summary l ≡ D .pageSummary page → replayed D requests ≡ Served.carried (D .stateBytes l)
-  rests-here page requests bindings now l r current =
-      let here = one-path D laws messages clear (r .path) requests (r .walked) (now .walked) (sym (r .summary) ∙ current ∙ now .stands) in
+  -- if the summary is the page's, the path is that of the requests that moved the page
+  pub rests-here : (page : List ℕ) (requests : List (List ℕ)) → Standing D messages page requests → (l : List ℕ)
+      → Rests D messages (D .summary l) (D .stateBytes l) → D .summary l ≡ D .pageSummary page → given D requests ≡ Served.carried (D .stateBytes l)
+  rests-here page requests now l r current =
+      let here = one-path D laws messages clear (r .path) requests (r .walked) (now .walked) (sym (r .ends) ∙ current ∙ now .ends) in
       rw here at (r .gives)
 
-  -- ---- one call, on a page that stands, whose messages are among `messages` and whose findings were answered
+  -- ---- one call, whose messages are among `messages` and whose findings were answered
 
-  module _ (page : List ℕ) (requests bindings : List (List ℕ)) (now : Standing D messages page requests bindings) (c : Call)
-      (hashed : Within (needed D page c) messages) (answeredBy : Within (relied D page c) bindings) where
-    -- a record that the call relies on
-    rests : (l : List ℕ) → Based D page c l → Rests D messages l
-    rests l b = rests-on page requests bindings now l (b .tests) (answeredBy _ (b .binds)) (hashed _ (b .states)) (hashed _ (b .bounds))
+  module _ (bindings : List (List ℕ)) (tree : Tree D messages bindings) (d : Did) (hashed : Within (d .needed) messages)
+      (answeredBefore : (l : List ℕ) → List·Memᴰ l (d .relied) → List·Memᴰ (bindingIn D l) bindings) where
+    pub rests : (l : List ℕ) → Based D d l → Rests D messages (D .summary l) (D .stateBytes l)
+    rests l b = rests-on bindings tree l (b .tests) (answeredBefore l (b .relies)) (λ x m. hashed x (b .needs x m))
 
-    -- a record that it takes
-    pub takes-replayed : (l : List ℕ) → Taken D page c l → replayed D requests ≡ Served.carried (D .stateBytes l)
-    takes-replayed l t = rests-here page requests bindings now l (rests l (t .based)) (t .current)
+    origin-rests : (o : Origin) → OriginBased D d o → Rests D messages (originSummary D o) (originState D o)
+    origin-rests Origin.start b = record { path = []; ends = refl; walked = tt; gives = refl }
+    origin-rests (Origin.from l) b = rests l b
 
-    -- a request leads on from a path to the path that is longer by it
-    goes-on : (l request state : List ℕ) → Led D page c l request state → Bound D messages (binding D (nextSummary D (D .summary l) request) state)
-    goes-on l request state led =
-        let r = rests l (led .based) in
+    -- what the call answers binds the end of the path that its row is put onto
+    grows : (bound : List ℕ) → Answered D d bound → Bound D messages bound
+    grows bound a =
+        let o = a .origin in
+        let r = origin-rests o (a .led .based) in
+        let ends : summaryAlong D (originSummary D o) (a .row) ≡ endOf D (onto (r .path) (a .row)) =
+        ap (λ (s : List ℕ). summaryAlong D s (a .row)) (r .ends) ∙ end-onto D (r .path) (a .row) in
         record {
-          path = request ∷ r .path;
-          state = state;
-          binds = ap (λ (s : List ℕ). binding D (nextSummary D s request) state) (r .summary);
-          walked = (rw (r .summary) at (hashed _ (led .summaries)), r .walked);
-          gives = ap (thenServed D request) (r .gives) ∙ led .serves;
-          states = hashed _ (led .states);
-          bounds = rw (r .summary) at (hashed _ (led .bounds));
+          path = onto (r .path) (a .row);
+          state = a .state;
+          binds = a .binds ∙ ap (λ (s : List ℕ). binding D s (a .state)) ends;
+          walked = walked-onto D messages (r .path) (a .row) (r .walked) (λ x m. hashed x (a .led .chain x (rw (r .ends) m)));
+          gives = sym (given-onto D (r .path) (a .row)) ∙ ap (λ (v : Served). servedAlong D v (a .row)) (r .gives) ∙ a .led .serves;
+          states = hashed _ (a .led .states);
+          bounds = rw ends at (hashed _ (a .led .bounds));
         }
-
-    -- what the call answers binds the end of a path
-    grows : (bound : List ℕ) → Answer D page c bound → Bound D messages bound
-    grows bound (first e states bounds) =
-        record { path = []; state = D .firstBytes; binds = e; walked = tt; gives = refl; states = hashed _ states; bounds = hashed _ bounds }
-    grows bound (next l request state e led) = rw e (goes-on l request state led)
-
-    -- and so does each binding answered by then
-    tree-after : (bound : List ℕ) → List·Memᴰ bound (answered D page c ++ bindings) → Bound D messages bound
-    tree-after bound m =
-        ⊎-elim (λ new. grows bound (answered-by D page c bound new)) (now .tree bound) (List·Memᴰ·append-cases (answered D page c) m)
-
-  -- ---- one step
-
-  -- the page after a step that moved it by a request, or did not
-  page-after : (page : List ℕ) (requests bindings : List (List ℕ)) (now : Standing D messages page requests bindings) (s : Step)
-      → Within (needed D page (callOf s)) messages → Within (relied D page (callOf s)) bindings → Moved D page s
-      → (D .rightPage (pageAfterStep D page s) ≡ true) × (D .pageSummary (pageAfterStep D page s) ≡ endOf D (moved D page s ++ requests))
-      × Walked D messages (moved D page s ++ requests)
-  page-after page requests bindings now s hashed answered (stays same none) = rw (same, none) (now .right, now .stands, now .walked)
-  page-after page requests bindings now s hashed answered (moves l request state t led after one) =
-      let next = nextSummary D (D .summary l) request in
-      let long = laws .length-hash (summaryMessage (D .summary l) request) in
-      let here : D .summary l ≡ endOf D requests = t .current ∙ now .stands in
-      let walked = rw here at (hashed _ (led .summaries)) in
-      rw (after, one) (
-        laws .right-page page next (now .right) long,
-        laws .page-summary page next (now .right) long ∙ ap (λ (x : List ℕ). nextSummary D x request) here,
-        (walked, now .walked),
-      )
-
-  pub step-stands : (page : List ℕ) (requests bindings : List (List ℕ)) (s : Step) → Standing D messages page requests bindings
-      → Within (needed D page (callOf s)) messages → Within (relied D page (callOf s)) bindings
-      → Standing D messages (pageAfterStep D page s) (moved D page s ++ requests) (answered D page (callOf s) ++ bindings)
-  step-stands page requests bindings s now hashed answeredBefore =
-      let p = page-after page requests bindings now s hashed answeredBefore (moved-by D page s) in
-      record { right = p .0; stands = p .1; walked = p .2; tree = tree-after page requests bindings now (callOf s) hashed answeredBefore }
 
   -- ---- a run
 
-  pub stands-after : (fresh : List ℕ) → Fresh D fresh → (run : Run) → Within (gathered (byCall needed D) D fresh run) messages → Unforged relied D fresh run
-      → Standing D messages (pageAfter D fresh run) (movedBefore D fresh run) (answeredBefore D fresh run)
-  stands-after fresh f [] hashed unforged =
-      record { right = f .right; stands = f .zero; walked = tt; tree = λ bound m. absurd (List·Memᴰ·not-nil m) }
-  stands-after fresh f (s ∷ older) hashed unforged =
-      let page = pageAfter D fresh older in
-      let now = stands-after fresh f older (λ x m. hashed x (Memᴰ·append-right (needed D page (callOf s)) m)) (unforged .1) in
-      step-stands page (movedBefore D fresh older) (answeredBefore D fresh older) s now (λ x m. hashed x (Memᴰ·append-left _ m)) (unforged .0)
+  pub tree-after : (fresh : List ℕ) (run : Run) → Within (neededIn D fresh run) messages → Unforged (λ d. d .relied) D fresh run
+      → Tree D messages (answeredBefore D fresh run)
+  tree-after fresh [] hashed unforged bound m = absurd (List·Memᴰ·not-nil m)
+  tree-after fresh (s ∷ older) hashed unforged bound m =
+      let d = doneBy D fresh older s in
+      let tree = tree-after fresh older (λ x m. hashed x (Memᴰ·append-right (d .needed) m)) (each-before _ (s ∷ []) older unforged) in
+      ⊎-elim
+      (λ (new : List·Memᴰ bound (d .answered)).
+      grows (answeredBefore D fresh older) tree d (λ x m. hashed x (Memᴰ·append-left _ m)) (unforged [] older s refl) bound
+      (deed D (pageAfter D fresh older) (callOf s) .answereds bound new))
+      (tree bound) (List·Memᴰ·append-cases (d .answered) m)

@@ -1,9 +1,11 @@
--- What is proved of every run, over any design; of the keeper that ships; and that an actual run meets the premises.
+-- What is proved of every run.
 pub mod Paths
+pub mod Steps
 pub mod Verdicts
 pub mod Inversions
 pub mod Invariant
 pub mod Moments
+pub mod Ties
 pub mod ConditionThree
 pub mod Afternoon
 pub mod Duty

@@ -9,8 +9,11 @@ use Rattle.numbers.specs.Comparing.{same}
 use Rattle.numbers.proofs.Comparison.{same-iff}
 use Rattle.records.specs.Page.{zeroSummary}
 use Rattle.answers.specs.Design.{Design}
-use Rattle.histories.specs.Runs.{Call, Run, callOf, pageAfter}
-use Rattle.histories.specs.Premises.{Apart, Unforged, answeredBefore}
+use Rattle.answers.specs.Hashing.{bindingIn}
+use Rattle.histories.specs.Did.{Did}
+use Rattle.histories.specs.Runs.{Step, Run, doneBy, answeredBefore}
+use Rattle.histories.specs.Premises.{Apart, Unforged}
+use Rattle.histories.proofs.Steps.{each-none, each-more}
 
 -- ---- messages apart, as a test
 
@@ -65,13 +68,13 @@ abbrev pub isAmong : List ℕ → List (List ℕ) → Bool
 isAmong x [] = false
 isAmong x (y ∷ ys) = same x y || isAmong x ys
 
-abbrev pub allAmong : List (List ℕ) → List (List ℕ) → Bool
-allAmong [] ys = true
-allAmong (x ∷ xs) ys = isAmong x ys && allAmong xs ys
+abbrev allAnswered : Design → List (List ℕ) → List (List ℕ) → Bool
+allAnswered D [] bindings = true
+allAnswered D (l ∷ ls) bindings = isAmong (bindingIn D l) bindings && allAnswered D ls bindings
 
-abbrev pub unforgedTest : (Design → List ℕ → Call → List (List ℕ)) → Design → List ℕ → Run → Bool
+abbrev pub unforgedTest : (Did → List (List ℕ)) → Design → List ℕ → Run → Bool
 unforgedTest finds D fresh [] = true
-unforgedTest finds D fresh (s ∷ older) = allAmong (finds D (pageAfter D fresh older) (callOf s)) (answeredBefore D fresh older) && unforgedTest finds D fresh older
+unforgedTest finds D fresh (s ∷ older) = allAnswered D (finds (doneBy D fresh older s)) (answeredBefore D fresh older) && unforgedTest finds D fresh older
 
 among-step : (x y : List ℕ) (ys : List (List ℕ)) (b : Bool) → same x y ≡ b → (b || isAmong x ys) ≡ true → (isAmong x ys ≡ true → List·Memᴰ x ys)
     → List·Memᴰ x (y ∷ ys)
@@ -82,15 +85,14 @@ among-sound : (x : List ℕ) (ys : List (List ℕ)) → isAmong x ys ≡ true �
 among-sound x [] t = absurd (false≢true t)
 among-sound x (y ∷ ys) t = among-step x y ys (same x y) refl t (among-sound x ys)
 
-all-among-sound : (xs ys : List (List ℕ)) → allAmong xs ys ≡ true → (x : List ℕ) → List·Memᴰ x xs → List·Memᴰ x ys
-all-among-sound [] ys t x m = absurd (List·Memᴰ·not-nil m)
-all-among-sound (z ∷ xs) ys t x m =
-    let both = and-eq-true-iff (isAmong z ys) (allAmong xs ys) .0 t in
-    ⊎-elim (λ is. Memᴰ·cast is (among-sound z ys (both .0))) (all-among-sound xs ys (both .1) x) (List·Memᴰ·cases-cons m)
+all-answered-sound : (D : Design) (ls bindings : List (List ℕ)) → allAnswered D ls bindings ≡ true → (l : List ℕ) → List·Memᴰ l ls → List·Memᴰ (bindingIn D l) bindings
+all-answered-sound D [] bindings t l m = absurd (List·Memᴰ·not-nil m)
+all-answered-sound D (k ∷ ls) bindings t l m =
+    let both = and-eq-true-iff (isAmong (bindingIn D k) bindings) (allAnswered D ls bindings) .0 t in
+    ⊎-elim (λ (is : l ≡ k). rw is (among-sound (bindingIn D k) bindings (both .0))) (all-answered-sound D ls bindings (both .1) l) (List·Memᴰ·cases-cons m)
 
-pub unforged-by-test : (finds : Design → List ℕ → Call → List (List ℕ)) (D : Design) (fresh : List ℕ) (run : Run)
-    → unforgedTest finds D fresh run ≡ true → Unforged finds D fresh run
-unforged-by-test finds D fresh [] t = tt
+pub unforged-by-test : (finds : Did → List (List ℕ)) (D : Design) (fresh : List ℕ) (run : Run) → unforgedTest finds D fresh run ≡ true → Unforged finds D fresh run
+unforged-by-test finds D fresh [] t = each-none _
 unforged-by-test finds D fresh (s ∷ older) t =
-    let both = and-eq-true-iff (allAmong (finds D (pageAfter D fresh older) (callOf s)) (answeredBefore D fresh older)) (unforgedTest finds D fresh older) .0 t in
-    (all-among-sound _ _ (both .0), unforged-by-test finds D fresh older (both .1))
+    let both = and-eq-true-iff (allAnswered D (finds (doneBy D fresh older s)) (answeredBefore D fresh older)) (unforgedTest finds D fresh older) .0 t in
+    each-more _ s older (all-answered-sound D _ _ (both .0)) (unforged-by-test finds D fresh older (both .1))

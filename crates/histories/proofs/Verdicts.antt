@@ -16,7 +16,8 @@ use Rattle.records.specs.declared.Tested.the-variants.{Passed, Refused}
 use Rattle.answers.specs.Design.{Design, Served}
 use Rattle.answers.specs.Hashing.{nextSummary, valid}
 use Rattle.answers.specs.Judging.{unless, andThen, Verdict, early, forged, stale, barred, good, judged, offered, looked, shown, performVerdict, repeatVerdict, viewVerdict, resumeVerdict}
-use Rattle.answers.specs.Answers.{viewedBy, viewed, Resumed, isGood, resumedBy, resumed}
+use Rattle.answers.specs.Answers.{Performed, answeredBy, performed, repeated, viewedBy, viewed, Resumed, isGood, resumedBy, resumed}
+use Rattle.answers.proofs.Tests.{offer}
 
 -- ---- tests
 
@@ -41,18 +42,14 @@ pub record Past (t : Tested) (valid current : Bool) : Type 0 where
   pub seven : valid ≡ true
   pub eight : current ≡ true
 
-pub past-judged : (t : Tested) (valid current : Bool) (s : Served) → past (judged t valid current s) ≡ true → Past t valid current
+past-judged : (t : Tested) (valid current : Bool) (s : Served) → past (judged t valid current s) ≡ true → Past t valid current
 past-judged (Refused r) v c s e = absurd (false≢true e)
 past-judged Passed false c s e = absurd (false≢true e)
 past-judged Passed true false s e = absurd (false≢true e)
 past-judged Passed true true s e = record { tests = refl; seven = refl; eight = refl }
 
--- a good verdict is past test 8
-pub past-good : (v : Verdict) (state : List ℕ) → v ≡ good state → past v ≡ true
-past-good v state e = rw e refl
-
 -- a good verdict has the state that the service gives
-pub good-judged : (t : Tested) (valid current : Bool) (s : Served) (state : List ℕ) → judged t valid current s ≡ good state → s ≡ Served.carried state
+good-judged : (t : Tested) (valid current : Bool) (s : Served) (state : List ℕ) → judged t valid current s ≡ good state → s ≡ Served.carried state
 good-judged (Refused r) v c s state e = let z : _≡_ {A = ℕ} 0 1 = cc in absurd (omega arith)
 good-judged Passed false c s state e = let z : _≡_ {A = ℕ} 0 1 = cc in absurd (omega arith)
 good-judged Passed true false s state e = let z : _≡_ {A = ℕ} 0 1 = cc in absurd (omega arith)
@@ -65,31 +62,52 @@ stale-judged (Refused r) v s = refl
 stale-judged Passed false s = refl
 stale-judged Passed true s = refl
 
+-- a good verdict is past test 8
+pub past-good : (v : Verdict) (state : List ℕ) → v ≡ good state → past v ≡ true
+past-good v state e = rw e refl
+
+pub good-past : (v : Verdict) → isGood v ≡ true → past v ≡ true
+good-past (early r) e = absurd (false≢true e)
+good-past forged e = absurd (false≢true e)
+good-past stale e = absurd (false≢true e)
+good-past (barred r) e = absurd (false≢true e)
+good-past (good state) e = refl
+
 -- ---- the four calls that are offered a record
+
+-- a record that passed the tests 3, 4 and 5, and has the page's summary
+pub record Fits (D : Design) (page l : List ℕ) : Type 0 where
+  pub tests : D .tested l ≡ Passed
+  pub current : D .summary l ≡ D .pageSummary page
 
 pub perform-past : (D : Design) (page l request answer : List ℕ) → past (performVerdict D page l request answer) ≡ true
     → Past (offered D page l request answer) (valid D page l) (same (D .summary l) (D .pageSummary page))
 unfolding performVerdict
 perform-past D page l request answer e = past-judged _ _ _ (D .served (D .stateBytes l) request) e
 
-pub repeat-past : (D : Design) (page l request answer : List ℕ) → past (repeatVerdict D page l request answer) ≡ true
-    → Past (offered D page l request answer) (valid D page l) (same (nextSummary D (D .summary l) request) (D .pageSummary page))
+pub perform-fits : (D : Design) (page l request answer : List ℕ) → past (performVerdict D page l request answer) ≡ true → Fits D page l
+perform-fits D page l request answer e =
+    let p = perform-past D page l request answer e in
+    record { tests = offer D page l request answer (p .tests) .tests; current = same-iff _ _ .0 (p .eight) }
+
+pub repeat-tests : (D : Design) (page l request answer : List ℕ) → past (repeatVerdict D page l request answer) ≡ true → D .tested l ≡ Passed
 unfolding repeatVerdict
-repeat-past D page l request answer e = past-judged _ _ _ (D .served (D .stateBytes l) request) e
+repeat-tests D page l request answer e =
+    let p : Past (offered D page l request answer) (valid D page l) (same (nextSummary D (D .summary l) request) (D .pageSummary page)) =
+    past-judged _ _ _ (D .served (D .stateBytes l) request) e in
+    offer D page l request answer (p .tests) .tests
 
-pub view-past : (D : Design) (page l : List ℕ) (rack : ℕ) → past (viewVerdict D page l rack) ≡ true
-    → (D .tested l ≡ Passed) × (D .summary l ≡ D .pageSummary page)
+pub view-fits : (D : Design) (page l : List ℕ) (rack : ℕ) → past (viewVerdict D page l rack) ≡ true → Fits D page l
 unfolding viewVerdict
-view-past D page l rack e =
+view-fits D page l rack e =
     let p : Past (looked D page l rack) (valid D page l) (same (D .summary l) (D .pageSummary page)) = past-judged _ _ _ (shown D (D .stateBytes l) rack) e in
-    (both _ _ (both (unless (D .rightPage page) Page) _ (p .tests) .1) .0, same-iff _ _ .0 (p .eight))
+    record { tests = both _ _ (both (unless (D .rightPage page) Page) _ (p .tests) .1) .0; current = same-iff _ _ .0 (p .eight) }
 
-pub resume-past : (D : Design) (page l : List ℕ) → past (resumeVerdict D page l) ≡ true
-    → (D .tested l ≡ Passed) × (D .summary l ≡ D .pageSummary page)
+pub resume-fits : (D : Design) (page l : List ℕ) → past (resumeVerdict D page l) ≡ true → Fits D page l
 unfolding resumeVerdict
-resume-past D page l e =
+resume-fits D page l e =
     let p = past-judged (andThen (unless (D .rightPage page) Page) (D .tested l)) (valid D page l) (same (D .summary l) (D .pageSummary page)) (Served.carried (D .stateBytes l)) e in
-    (both (unless (D .rightPage page) Page) (D .tested l) (p .tests) .1, same-iff _ _ .0 (p .eight))
+    record { tests = both (unless (D .rightPage page) Page) (D .tested l) (p .tests) .1; current = same-iff _ _ .0 (p .eight) }
 
 -- accepted: the state that the service gives
 pub perform-good : (D : Design) (page l request answer state : List ℕ) → performVerdict D page l request answer ≡ good state
@@ -134,27 +152,33 @@ some-number Limit = omega arith
 some-number Total = omega arith
 some-number Fresh = omega arith
 
--- a view with the number 0 is of a record past test 8, and shows the figures of the record's own state
-viewed-good : (D : Design) (rack : ℕ) (own : List ℕ) (v : Verdict) → ((state : List ℕ) → v ≡ good state → state ≡ own) → viewedBy D rack v .number ≡ 0
-    → (past v ≡ true) × (viewedBy D rack v .figures ≡ D .figures own rack)
-viewed-good D rack own (early r) is e = absurd (omega (arith, some-number r))
-viewed-good D rack own forged is e = absurd (omega arith)
-viewed-good D rack own stale is e = absurd (omega arith)
-viewed-good D rack own (barred r) is e = absurd (omega (arith, some-number r))
-viewed-good D rack own (good state) is e = (refl, rw (is state refl) refl)
+-- a call with the number 0 has a good verdict
+answered-good : (D : Design) (page l request answer after : List ℕ) (v : Verdict) → answeredBy D page l request answer after v .number ≡ 0
+    → (state : List ℕ) × (v ≡ good state)
+answered-good D page l request answer after (early r) e = absurd (omega (arith, some-number r))
+answered-good D page l request answer after forged e = absurd (omega arith)
+answered-good D page l request answer after stale e = absurd (omega arith)
+answered-good D page l request answer after (barred r) e = absurd (omega (arith, some-number r))
+answered-good D page l request answer after (good state) e = (state, refl)
+
+pub perform-accepted : (D : Design) (page l request answer : List ℕ) → performed D page l request answer .number ≡ 0
+    → (state : List ℕ) × (performVerdict D page l request answer ≡ good state)
+unfolding performed
+perform-accepted D page l request answer e = answered-good D page l request answer _ (performVerdict D page l request answer) e
+
+-- a view with the number 0 shows the figures of the record's own state
+view-shows : (D : Design) (rack : ℕ) (own : List ℕ) (v : Verdict) → ((state : List ℕ) → v ≡ good state → state ≡ own) → viewedBy D rack v .number ≡ 0
+    → viewedBy D rack v .figures ≡ D .figures own rack
+view-shows D rack own (early r) is e = absurd (omega (arith, some-number r))
+view-shows D rack own forged is e = absurd (omega arith)
+view-shows D rack own stale is e = absurd (omega arith)
+view-shows D rack own (barred r) is e = absurd (omega (arith, some-number r))
+view-shows D rack own (good state) is e = rw (is state refl) refl
 
 pub view-accepted : (D : Design) (page l : List ℕ) (rack : ℕ) → viewed D page l rack .number ≡ 0
-    → (past (viewVerdict D page l rack) ≡ true) × (viewed D page l rack .figures ≡ D .figures (D .stateBytes l) rack)
+    → viewed D page l rack .figures ≡ D .figures (D .stateBytes l) rack
 unfolding viewed
-view-accepted D page l rack e = viewed-good D rack (D .stateBytes l) (viewVerdict D page l rack) (view-good D page l rack) e
-
--- a record that resume finds good is past test 8
-pub good-past : (v : Verdict) → isGood v ≡ true → past v ≡ true
-good-past (early r) e = absurd (false≢true e)
-good-past forged e = absurd (false≢true e)
-good-past stale e = absurd (false≢true e)
-good-past (barred r) e = absurd (false≢true e)
-good-past (good state) e = refl
+view-accepted D page l rack e = view-shows D rack (D .stateBytes l) (viewVerdict D page l rack) (view-good D page l rack) e
 
 -- what resume hands back is good, and the disk one only where RAM's is not
 from-ram : (r d : Bool) → resumedBy r d ≡ Resumed.ram → r ≡ true
@@ -162,18 +186,15 @@ from-ram true d e = refl
 from-ram false true e = let z : _≡_ {A = ℕ} 0 1 = cc in absurd (omega arith)
 from-ram false false e = let z : _≡_ {A = ℕ} 0 1 = cc in absurd (omega arith)
 
-from-disk : (r d : Bool) → resumedBy r d ≡ Resumed.disk → (r ≡ false) × (d ≡ true)
+from-disk : (r d : Bool) → resumedBy r d ≡ Resumed.disk → d ≡ true
 from-disk true d e = let z : _≡_ {A = ℕ} 0 1 = cc in absurd (omega arith)
-from-disk false true e = (refl, refl)
+from-disk false true e = refl
 from-disk false false e = let z : _≡_ {A = ℕ} 0 1 = cc in absurd (omega arith)
 
-pub ram-good : (D : Design) (page inRam onDisk : List ℕ) → resumed D page inRam onDisk ≡ Resumed.ram → past (resumeVerdict D page inRam) ≡ true
+pub ram-good : (D : Design) (page inRam onDisk : List ℕ) → resumed D page inRam onDisk ≡ Resumed.ram → isGood (resumeVerdict D page inRam) ≡ true
 unfolding resumed
-ram-good D page inRam onDisk e = good-past (resumeVerdict D page inRam) (from-ram _ (isGood (resumeVerdict D page onDisk)) e)
+ram-good D page inRam onDisk e = from-ram (isGood (resumeVerdict D page inRam)) (isGood (resumeVerdict D page onDisk)) e
 
-pub disk-good : (D : Design) (page inRam onDisk : List ℕ) → resumed D page inRam onDisk ≡ Resumed.disk
-    → (isGood (resumeVerdict D page inRam) ≡ false) × (past (resumeVerdict D page onDisk) ≡ true)
+pub disk-good : (D : Design) (page inRam onDisk : List ℕ) → resumed D page inRam onDisk ≡ Resumed.disk → isGood (resumeVerdict D page onDisk) ≡ true
 unfolding resumed
-disk-good D page inRam onDisk e =
-    let d = from-disk (isGood (resumeVerdict D page inRam)) (isGood (resumeVerdict D page onDisk)) e in
-    (d .0, good-past (resumeVerdict D page onDisk) (d .1))
+disk-good D page inRam onDisk e = from-disk (isGood (resumeVerdict D page inRam)) (isGood (resumeVerdict D page onDisk)) e

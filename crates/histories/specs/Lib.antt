@@ -1,8 +1,15 @@
--- Runs, what their calls did, the premises, and what is proved of every run.
+-- Runs of calls and power cuts, what each call did, the premises, what is proved, and a run written out.
+pub mod Folds
+pub mod Calls
+pub mod Did
 pub mod Runs
-pub mod Effects
 pub mod Premises
 pub mod Laws
 pub mod Statements
+pub mod Duty
+pub mod Ties
 pub mod Closed
+pub mod Toy
 pub mod Witness
+pub mod WitnessRun
+pub mod WitnessDuty

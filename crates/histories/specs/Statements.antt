@@ -1,67 +1,62 @@
--- What is proved of every run under the premises: the third condition, the afternoon itself and the duty after a power cut; and of every
--- call, that what counts as answered is what was written. Each is a statement about the definitions that the contracts of the calls cite.
--- A run's older part is what went before a moment in it.
+-- What is proved of every run under the premises: the third condition, and the afternoon itself. Each is a statement about the definitions
+-- that the contracts of the calls cite. A run's older part is what went before a moment in it.
 use mathlib.Core.Path.{_≡_}
-use mathlib.Core.Bool.{Bool, true, false}
-use Prim.Native.Nat.{ℕ, _≤_}
-use mathlib.Core.List.{List, [], _∷_, _++_, List·Memᴰ}
-use lib.ListN.{length}
+use mathlib.Core.Bool.{true}
+use Prim.Native.Nat.{ℕ, _<_}
+use mathlib.Core.List.{List, _++_, List·Memᴰ, reverse}
 use Rattle.refusals.specs.declared.Refusal.the-variants.{Current}
 use Rattle.refusals.specs.Numbers.{numberOf}
 use Rattle.records.specs.declared.Tested.the-variants.{Passed}
 use Rattle.answers.specs.Design.{Design, Served}
-use Rattle.answers.specs.Hashing.{nextSummary, bindingIn, valid}
-use Rattle.answers.specs.Judging.{Verdict, offered, looked, performVerdict, resumeVerdict}
-use Rattle.answers.specs.Answers.{refusal, answeredBy, opened, performed, repeated, viewed, Resumed, isGood, resumed}
-use Rattle.answers.specs.Written.{front}
-use Rattle.histories.specs.Runs.{Call, opens, performs, repeats, views, resumes, Step, cutBefore, cutAfter, Run, callOf, pageAfter, gathered}
-use Rattle.histories.specs.Effects.{recordMessages, taken, answered, needed, byCall}
-use Rattle.histories.specs.Premises.{answeredBefore, movedBefore, Apart}
+use Rattle.answers.specs.Hashing.{bindingIn, valid}
+use Rattle.answers.specs.Rows.{replayed}
+use Rattle.answers.specs.Judging.{offered, looked}
+use Rattle.answers.specs.Answers.{refusal, performed, viewed, Resumed, resumed}
+use Rattle.histories.specs.Folds.{AtEach}
+use Rattle.histories.specs.Calls.{performs, views, resumes}
+use Rattle.histories.specs.Did.{recordMessages}
+use Rattle.histories.specs.Runs.{Run, callOf, pageAfter, doneBy, inRun, answeredBefore, movedBefore}
+use Rattle.histories.specs.Premises.{Apart}
 
--- ---- what requests give in order
+-- the requests that moved the page, in order
+abbrev pub requestsBefore : Design → List ℕ → Run → List (List ℕ)
+requestsBefore D fresh run = reverse (movedBefore D fresh run)
 
-abbrev pub thenServed : Design → List ℕ → Served → Served
-thenServed D request (Served.carried state) = D .served state request
-thenServed D request (Served.barred r) = Served.barred r
+-- a record holds what the requests that moved the page give in order
+abbrev pub Replayed : Design → List ℕ → Run → List ℕ → Type 0
+Replayed D fresh older l = replayed D (requestsBefore D fresh older) ≡ Served.carried (D .stateBytes l)
 
--- what the service gives for requests from the first state, the newest request first in the list and last in order
-abbrev pub replayed : Design → List (List ℕ) → Served
-replayed D [] = Served.carried (D .firstBytes)
-replayed D (request ∷ before) = thenServed D request (replayed D before)
-
--- ---- condition 3: a record taken as current at any step of a run holds what the requests that moved the page before that step give
+-- ---- condition 3: so does a record taken as current at any step of a run, with the requests before that step
 
 abbrev pub TakenAreReplayed : Design → List ℕ → Run → Type 0
-TakenAreReplayed D fresh run =
-    (newer older : Run) (s : Step) → run ≡ newer ++ s ∷ older
-    → (l : List ℕ) → List·Memᴰ l (taken D (pageAfter D fresh older) (callOf s))
-    → replayed D (movedBefore D fresh older) ≡ Served.carried (D .stateBytes l)
+TakenAreReplayed D fresh run = AtEach (λ older s. (l : List ℕ) → List·Memᴰ l (doneBy D fresh older s .taken) → Replayed D fresh older l) run
+
+-- the record of a perform that is accepted, or refused behind test 8, is such a record
+abbrev pub PerformedAreReplayed : Design → List ℕ → Run → Type 0
+PerformedAreReplayed D fresh run =
+    AtEach (λ older s. (l request answer : List ℕ) → callOf s ≡ performs l request answer
+    → (performed D (pageAfter D fresh older) l request answer .number ≡ 0 → Replayed D fresh older l)
+    × (numberOf Current < performed D (pageAfter D fresh older) l request answer .number → Replayed D fresh older l)) run
 
 -- a view that is accepted shows the figures of that replay
 abbrev pub ViewedAreReplayed : Design → List ℕ → Run → Type 0
 ViewedAreReplayed D fresh run =
-    (newer older : Run) (s : Step) → run ≡ newer ++ s ∷ older
-    → (l : List ℕ) (rack : ℕ) → callOf s ≡ views l rack → viewed D (pageAfter D fresh older) l rack .number ≡ 0
-    → (replayed D (movedBefore D fresh older) ≡ Served.carried (D .stateBytes l))
-    × (viewed D (pageAfter D fresh older) l rack .figures ≡ D .figures (D .stateBytes l) rack)
+    AtEach (λ older s. (l : List ℕ) (rack : ℕ) → callOf s ≡ views l rack → viewed D (pageAfter D fresh older) l rack .number ≡ 0
+    → Replayed D fresh older l × (viewed D (pageAfter D fresh older) l rack .figures ≡ D .figures (D .stateBytes l) rack)) run
 
 -- the record that resume hands back is such a record
 abbrev pub ResumedAreReplayed : Design → List ℕ → Run → Type 0
 ResumedAreReplayed D fresh run =
-    (newer older : Run) (s : Step) → run ≡ newer ++ s ∷ older
-    → (inRam onDisk : List ℕ) → callOf s ≡ resumes inRam onDisk
-    → (resumed D (pageAfter D fresh older) inRam onDisk ≡ Resumed.ram
-    → replayed D (movedBefore D fresh older) ≡ Served.carried (D .stateBytes inRam))
-    × (resumed D (pageAfter D fresh older) inRam onDisk ≡ Resumed.disk
-    → replayed D (movedBefore D fresh older) ≡ Served.carried (D .stateBytes onDisk))
+    AtEach (λ older s. (inRam onDisk : List ℕ) → callOf s ≡ resumes inRam onDisk
+    → (resumed D (pageAfter D fresh older) inRam onDisk ≡ Resumed.ram → Replayed D fresh older inRam)
+    × (resumed D (pageAfter D fresh older) inRam onDisk ≡ Resumed.disk → Replayed D fresh older onDisk)) run
 
--- a record that resume would find current, and whose binding was answered earlier, is such a record too, though no call took it: its own
--- messages are counted with those of the run. So is a disk record that resume does not look at since RAM's is current
-abbrev pub AnsweredAreReplayed : Design → List ℕ → Run → Type 0
-AnsweredAreReplayed D fresh run =
-    (l : List ℕ) → isGood (resumeVerdict D (pageAfter D fresh run) l) ≡ true → List·Memᴰ (bindingIn D l) (answeredBefore D fresh run)
-    → Apart D (recordMessages D l ++ gathered (byCall needed D) D fresh run)
-    → replayed D (movedBefore D fresh run) ≡ Served.carried (D .stateBytes l)
+-- a record that resume would hand back after the run, and whose binding was answered in it, is such a record too, though no call took it:
+-- its own messages are counted with those of the run. So is a disk record that resume does not look at since RAM's is current
+abbrev pub AnsweredAreReplayed : (Design → List ℕ → Run → List (List ℕ)) → Design → List ℕ → Run → Type 0
+AnsweredAreReplayed messages D fresh run =
+    (l onDisk : List ℕ) → resumed D (pageAfter D fresh run) l onDisk ≡ Resumed.ram → List·Memᴰ (bindingIn D l) (answeredBefore D fresh run)
+    → Apart D (recordMessages D l ++ messages D fresh run) → Replayed D fresh run l
 
 -- ---- the afternoon: no summary that the page has held returns after it has moved on
 
@@ -72,62 +67,16 @@ NoSummaryReturns D fresh run =
     → movedBefore D fresh run ≡ movedBefore D fresh older
 
 -- a record for the summary of an earlier moment, since which the page has moved on: perform and view give 8 if no test before it
--- refuses the record, and resume does not hand it back
+-- refuses the record, and resume does not hand it back, from RAM or from disk
 pub record TurnedAway (D : Design) (page l : List ℕ) : Type 0 where
   pub perform : (request answer : List ℕ) → offered D page l request answer ≡ Passed → valid D page l ≡ true
       → performed D page l request answer ≡ refusal (numberOf Current) page answer
   pub view : (rack : ℕ) → looked D page l rack ≡ Passed → valid D page l ≡ true → viewed D page l rack .number ≡ numberOf Current
-  pub resume : isGood (resumeVerdict D page l) ≡ false
+  pub inRam : (onDisk : List ℕ) → resumed D page l onDisk ≡ Resumed.ram → ⊥
+  pub onDisk : (inRam : List ℕ) → resumed D page inRam l ≡ Resumed.disk → ⊥
 
 abbrev pub OldRecordsAreTurnedAway : Design → List ℕ → Run → Type 0
 OldRecordsAreTurnedAway D fresh run =
     (newer older : Run) → run ≡ newer ++ older → (movedBefore D fresh run ≡ movedBefore D fresh older → ⊥)
     → (l : List ℕ) → D .summary l ≡ D .pageSummary (pageAfter D fresh older)
     → TurnedAway D (pageAfter D fresh run) l
-
--- ---- the duty: after a cut in a perform that would have been accepted, and any calls but no other perform since
-
-abbrev pub isPerform : Call → Bool
-isPerform (performs l request answer) = true
-isPerform (opens answer) = false
-isPerform (repeats l request answer) = false
-isPerform (views l rack) = false
-isPerform (resumes inRam onDisk) = false
-
-abbrev pub NoPerform : Run → Type 0
-NoPerform [] = Unit {0}
-NoPerform (s ∷ older) = (isPerform (callOf s) ≡ false) × NoPerform older
-
--- perform is accepted and answers the record of the uncut call, from `before`, and repeat gives 8
-pub record ByPerform (D : Design) (before page l request state room : List ℕ) : Type 0 where
-  pub perform : performed D page l request room
-      ≡ answeredBy D before l request room (D .withSummary before (nextSummary D (D .summary l) request)) (Verdict.good state)
-  pub repeat : repeated D page l request room ≡ refusal (numberOf Current) page room
-
--- the other way round; the page stays
-pub record ByRepeat (D : Design) (before page l request state room : List ℕ) : Type 0 where
-  pub repeat : repeated D page l request room ≡ answeredBy D before l request room page (Verdict.good state)
-  pub perform : performed D page l request room ≡ refusal (numberOf Current) page room
-
--- both are judged on the page that then stands, with any buffer that has room for the answer; `older` is what went before the cut call
-abbrev pub Duty : Design → List ℕ → Run → List ℕ → List ℕ → List ℕ → Type 0
-Duty D fresh older l request answer =
-    (state : List ℕ) → performVerdict D (pageAfter D fresh older) l request answer ≡ Verdict.good state
-    → (since : Run) → NoPerform since
-    → (room : List ℕ) → D .recordSize ≤ length room
-    → ByPerform D (pageAfter D fresh older) (pageAfter D fresh (since ++ cutBefore (performs l request answer) ∷ older)) l request state room
-    × ByRepeat D (pageAfter D fresh older) (pageAfter D fresh (since ++ cutAfter (performs l request answer) ∷ older)) l request state room
-
--- ---- what counts as answered is what was written
-
--- an accepted call's binding that counts is that of the record at the front of its buffer; of a refused call nothing counts
-pub record Counted (D : Design) (number : ℕ) (answer : List ℕ) (counted : List (List ℕ)) : Type 0 where
-  pub accepted : number ≡ 0 → counted ≡ bindingIn D (front D answer) ∷ []
-  pub refused : (number ≡ 0 → ⊥) → counted ≡ []
-
-pub record AnswersAreCounted (D : Design) (page : List ℕ) : Type 0 where
-  pub byOpen : (answer : List ℕ) → Counted D (opened D page answer .number) (opened D page answer .answer) (answered D page (opens answer))
-  pub byPerform : (l request answer : List ℕ)
-      → Counted D (performed D page l request answer .number) (performed D page l request answer .answer) (answered D page (performs l request answer))
-  pub byRepeat : (l request answer : List ℕ)
-      → Counted D (repeated D page l request answer .number) (repeated D page l request answer .answer) (answered D page (repeats l request answer))

@@ -1,611 +1,356 @@
--- A run written out. The premises and the theorems read what the calls of a run hashed, found valid, relied on, took, answered and moved
--- by definitions (`Effects`) that no theorem can hold to the truth: with an entry left out a theorem stays true and says less. Here is
--- one run of 26 steps, with cuts, refusals and accepted calls, whose lists are spelled out and computed to be these.
--- The keeper of the run has one rack and a stand-in hash, so that all can be computed; the hash does collide, though not among the
--- messages of this run. A history is named by its requests: `ab` is what comes of request a and then request b. Assumes nothing.
+-- A run written out, step by step. The premises and the theorems read what the calls of a run hashed, found valid, relied on, took, answered
+-- and moved by a definition (`did`) that no theorem can hold to the truth: with an entry left out a theorem stays true and says less. Here
+-- is one run of 30 steps, with cuts, refusals and accepted calls, and what each step did, spelled out and computed to be so; the page that
+-- a step finds is written beside it. Assumes nothing.
 use mathlib.Core.Path.{_≡_, refl}
-use mathlib.Core.Bool.{false}
-use Prim.Native.Nat.{ℕ, _+_, _*_}
+use mathlib.Core.Bool.{Bool, true, false, cond, _&&_}
+use Prim.Native.Nat.{ℕ}
 use mathlib.Core.List.{List, [], _∷_, _++_}
-use lib.ListN.{replicate, drop}
-use Rattle.numbers.specs.Numbers.{beFrom, be, bytesOf}
-use Rattle.numbers.specs.Parts.{part, over}
+use lib.ListN.{drop}
+use lib.Dec.{eqb}
 use Rattle.numbers.specs.Comparing.{same}
-use Rattle.racks.specs.Racks.{firstState}
-use Rattle.racks.specs.Layout.{rackOf, bytesOfRack, stateOf, bytesOfState}
-use Rattle.racks.specs.Rule.{goodRack, goodState}
-use Rattle.racks.specs.Figures.{percent, totalStored}
-use Rattle.requests.specs.Layout.{bytesOfRequest}
-use Rattle.requests.specs.Formed.{rightForm, rightOther, rightAmount, wellFormed}
-use Rattle.requests.specs.Requests.{requestBy, requestOf, readRequest}
-use Rattle.rules.specs.Rules.{overCapacity, overStored, overLimit, verdict, carryOut}
-use Rattle.rules.specs.Replay.{book}
-use Rattle.records.specs.Page.{zeroSummary, pageKey}
-use Rattle.records.specs.Record.{recordOf, rightSize, rightVersion, rightState}
-use Rattle.records.specs.Tests.{tested}
-use Rattle.answers.specs.Design.{Design, Served}
-use Rattle.answers.specs.Judging.{performVerdict, repeatVerdict, viewVerdict, resumeVerdict}
-use Rattle.answers.specs.Answers.{openTests, opened, performed, repeated, viewed, resumed, resumedNumber}
-use Rattle.answers.specs.Edition.{servedBytes, storedAfter, design}
-use Rattle.histories.specs.Runs.{Call, opens, performs, repeats, views, resumes, whole, cutBefore, cutAfter, callOf, Run, pageAfter, gathered}
-use Rattle.histories.specs.Effects.{hashed, found, taken, answered, needed, relied, byCall}
-use Rattle.histories.specs.Premises.{answeredBefore, movedBefore}
-use Rattle.histories.specs.Statements.{replayed}
+use Rattle.answers.specs.Answers.{opened, performed, repeated, viewed, resumed, resumedNumber}
+use Rattle.histories.specs.Calls.{Call, opens, performs, repeats, views, resumes}
+use Rattle.histories.specs.Did.{did}
+use Rattle.histories.specs.Runs.{Step, whole, cutBefore, cutAfter, callOf, Run, pageAfterStep, movedBy}
+use Rattle.histories.specs.Toy.{toy, stating, moving, binding, bound, a, b, c, d, e, summary-0, summary-a, summary-ab, summary-ac, summary-acd, summary-acdb, state-0, state-a, state-ab, state-ac, state-acd, state-acdb, rackBy, fresh, page-a, page-ac, page-acd, page-acdb, room, answerOf, record-0, record-a, record-ab, record-ac, record-acd, record-acdb, record-forged, record-short, of-0, of-a, of-ab, of-ac, of-acd, of-acdb, of-forged, computing}
 
--- ---- a stand-in for the hash
+-- ---- what a step did, in parts
 
-abbrev mixed : ℕ → List ℕ → ℕ
-mixed n [] = n
-mixed n (x ∷ m) = mixed (n * 31 + x) m
+pub data Part : Type 0 where
+  number : Part
+  page : Part
+  buffer : Part
+  moved : Part
+  hashed : Part
+  found : Part
+  taken : Part
+  answered : Part
+  needed : Part
+  relied : Part
 
--- 32 bytes, of which four depend on the message
-unfoldable pub toyHash : List ℕ → List ℕ
-toyHash m = bytesOf 4 (mixed 0 m) ++ replicate 28 1
+-- the number that a call answers, and what its buffer holds afterwards, if it has one
+abbrev numberBy : List ℕ → Call → ℕ
+numberBy before (opens answer) = opened toy before answer .number
+numberBy before (performs l request answer) = performed toy before l request answer .number
+numberBy before (repeats l request answer) = repeated toy before l request answer .number
+numberBy before (views l rack) = viewed toy before l rack .number
+numberBy before (resumes inRam onDisk) = resumedNumber (resumed toy before inRam onDisk)
 
--- it collides: from the fresh page's summary a charge of 31 and a charge of 256 lead to one next summary
-abbrev chargeOf : ℕ → List ℕ
-chargeOf amount = 0x02 ∷ zeroSummary ++ bytesOfRequest 2 0 0 amount
+abbrev bufferBy : List ℕ → Call → List (List ℕ)
+bufferBy before (opens answer) = opened toy before answer .answer ∷ []
+bufferBy before (performs l request answer) = performed toy before l request answer .answer ∷ []
+bufferBy before (repeats l request answer) = repeated toy before l request answer .answer ∷ []
+bufferBy before (views l rack) = []
+bufferBy before (resumes inRam onDisk) = []
 
-pub toy-collides : (toyHash (chargeOf 31) ≡ toyHash (chargeOf 256)) × (same (chargeOf 31) (chargeOf 256) ≡ false)
-unfolding toyHash bytesOf bytesOfRequest zeroSummary same
-toy-collides = (refl, refl)
+-- each part as a list of byte lists, on the page before the step
+abbrev doing : List ℕ → Step → Part → List (List ℕ)
+doing before s Part.number = (numberBy before (callOf s) ∷ []) ∷ []
+doing before s Part.page = pageAfterStep toy before s ∷ []
+doing before s Part.buffer = bufferBy before (callOf s)
+doing before s Part.moved = movedBy toy before s
+doing before s Part.hashed = did toy before (callOf s) .hashed
+doing before s Part.found = did toy before (callOf s) .found
+doing before s Part.taken = did toy before (callOf s) .taken
+doing before s Part.answered = did toy before (callOf s) .answered
+doing before s Part.needed = did toy before (callOf s) .needed
+doing before s Part.relied = did toy before (callOf s) .relied
 
--- this edition's design at one rack, with the stand-in for the hash and for the MAC
-abbrev pub toy : Design
-toy =
-    let D = design 1 1 in
-    record {
-      hash = toyHash;
-      stateMessage = D .stateMessage;
-      rightPage = D .rightPage;
-      pageSummary = D .pageSummary;
-      withSummary = D .withSummary;
-      mac = λ page bound. toyHash (pageKey page ++ bound);
-      recordSize = D .recordSize;
-      tested = D .tested;
-      stateBytes = D .stateBytes;
-      summary = D .summary;
-      authenticator = D .authenticator;
-      recordOf = D .recordOf;
-      formed = D .formed;
-      firstBytes = D .firstBytes;
-      served = D .served;
-      storedAfter = D .storedAfter;
-      racks = D .racks;
-      figures = D .figures;
-    }
+-- ---- what is spelled out: some parts, and the others are empty
 
--- ---- what is hashed
+pub record Entry : Type 0 where
+  pub part : Part
+  pub is : List (List ℕ)
 
--- the message of a state; of a summary moved on by a request; and of the binding of a state to a summary
-abbrev pub stating : List ℕ → List ℕ
-stating state = 0x01 ∷ state
+abbrev has : Part → List (List ℕ) → Entry
+has part is = record { part = part; is = is }
 
-abbrev pub moving : List ℕ → List ℕ → List ℕ
-moving summary request = 0x02 ∷ summary ++ request
+abbrev parts : List Part
+parts = Part.number ∷ Part.page ∷ Part.buffer ∷ Part.moved ∷ Part.hashed ∷ Part.found ∷ Part.taken ∷ Part.answered ∷ Part.needed ∷ Part.relied ∷ []
 
-abbrev pub binding : List ℕ → List ℕ → List ℕ
-binding summary state = 0x03 ∷ summary ++ toyHash (stating state)
+abbrev index : Part → ℕ
+index Part.number = 0
+index Part.page = 1
+index Part.buffer = 2
+index Part.moved = 3
+index Part.hashed = 4
+index Part.found = 5
+index Part.taken = 6
+index Part.answered = 7
+index Part.needed = 8
+index Part.relied = 9
 
--- a binding
-abbrev pub bound : List ℕ → List ℕ → List ℕ
-bound summary state = toyHash (binding summary state)
+abbrev spelled : List Entry → Part → List (List ℕ)
+spelled [] part = []
+spelled (entry ∷ entries) part = cond (eqb (index part) (index (entry .part))) (entry .is) (spelled entries part)
 
--- ---- what the run is made of
+abbrev sameLists : List (List ℕ) → List (List ℕ) → Bool
+sameLists [] [] = true
+sameLists [] (y ∷ ys) = false
+sameLists (x ∷ xs) [] = false
+sameLists (x ∷ xs) (y ∷ ys) = same x y && sameLists xs ys
 
--- the requests: capacity 100; charge 60; charge 30; discharge 20; charge 500, which is more than the rack holds
-abbrev pub a : List ℕ
-a = bytesOfRequest 1 0 0 100
+-- the parts in which the two differ, so that a wrong entry is named
+abbrev differing : (Part → List (List ℕ)) → (Part → List (List ℕ)) → List Part → List Part
+differing did said [] = []
+differing did said (part ∷ rest) = cond (sameLists (did part) (said part)) (differing did said rest) (part ∷ differing did said rest)
 
-abbrev pub b : List ℕ
-b = bytesOfRequest 2 0 0 60
+-- a step, on the page before it, answers this number, leaves this page, and did just this
+abbrev Stepped : List ℕ → Step → ℕ → List ℕ → List Entry → Type 0
+Stepped before s k after entries =
+    differing (doing before s) (spelled (has Part.number ((k ∷ []) ∷ []) ∷ has Part.page (after ∷ []) ∷ entries)) parts ≡ []
 
-abbrev pub c : List ℕ
-c = bytesOfRequest 2 0 0 30
+-- ---- the steps
 
-abbrev pub d : List ℕ
-d = bytesOfRequest 3 0 0 20
+-- 1. open
+pub step-1 : Stepped fresh (whole (opens room)) 0 fresh
+    (has buffer (record-0 ∷ []) ∷ has hashed of-0 ∷ has answered (bound summary-0 state-0 ∷ []) ∷ has needed of-0 ∷ [])
+unfolding computing
+step-1 = refl
 
-abbrev pub e : List ℕ
-e = bytesOfRequest 2 0 0 500
+-- 2. open again, cut
+pub step-2 : Stepped fresh (cutBefore (opens room)) 0 fresh
+    (has buffer (record-0 ∷ []) ∷ has hashed of-0 ∷ has answered (bound summary-0 state-0 ∷ []) ∷ has needed of-0 ∷ [])
+unfolding computing
+step-2 = refl
 
--- the summaries: of the fresh page, and after requests
-abbrev pub summary-0 : List ℕ
-summary-0 = zeroSummary
+-- 3. perform
+pub step-3 : Stepped fresh (whole (performs record-0 a room)) 0 page-a
+    (has buffer (record-a ∷ []) ∷ has moved (a ∷ []) ∷ has hashed (of-0 ++ moving summary-0 a ∷ of-a)
+    ∷ has found (record-0 ∷ []) ∷ has taken (record-0 ∷ []) ∷ has answered (bound summary-a state-a ∷ [])
+    ∷ has needed (of-0 ++ moving summary-0 a ∷ of-a) ∷ has relied (record-0 ∷ []) ∷ [])
+unfolding computing
+step-3 = refl
 
-abbrev pub summary-a : List ℕ
-summary-a = toyHash (moving summary-0 a)
+-- 4. view
+pub step-4 : Stepped page-a (whole (views record-a 0)) 0 page-a
+    (has hashed of-a ∷ has found (record-a ∷ []) ∷ has taken (record-a ∷ []) ∷ has needed of-a
+    ∷ has relied (record-a ∷ []) ∷ [])
+unfolding computing
+step-4 = refl
 
-abbrev pub summary-ab : List ℕ
-summary-ab = toyHash (moving summary-a b)
+-- 5. perform, cut with the page of before: it answers a side branch, and moves nothing
+pub step-5 : Stepped page-a (cutBefore (performs record-a b room)) 0 page-a
+    (has buffer (record-ab ∷ []) ∷ has hashed (of-a ++ moving summary-a b ∷ of-ab) ∷ has found (record-a ∷ [])
+    ∷ has taken (record-a ∷ []) ∷ has answered (bound summary-ab state-ab ∷ [])
+    ∷ has needed (of-a ++ moving summary-a b ∷ of-ab) ∷ has relied (record-a ∷ []) ∷ [])
+unfolding computing
+step-5 = refl
 
-abbrev pub summary-ac : List ℕ
-summary-ac = toyHash (moving summary-a c)
+-- 6. the record of the cut call: 8; it is found valid, and not taken
+pub step-6 : Stepped page-a (whole (views record-ab 0)) 8 page-a
+    (has hashed of-ab ∷ has found (record-ab ∷ []) ∷ [])
+unfolding computing
+step-6 = refl
 
-abbrev pub summary-acd : List ℕ
-summary-acd = toyHash (moving summary-ac d)
+-- 7. another request instead, cut with the page of after: it moves the page
+pub step-7 : Stepped page-a (cutAfter (performs record-a c room)) 0 page-ac
+    (has buffer (record-ac ∷ []) ∷ has moved (c ∷ []) ∷ has hashed (of-a ++ moving summary-a c ∷ of-ac)
+    ∷ has found (record-a ∷ []) ∷ has taken (record-a ∷ []) ∷ has answered (bound summary-ac state-ac ∷ [])
+    ∷ has needed (of-a ++ moving summary-a c ∷ of-ac) ∷ has relied (record-a ∷ []) ∷ [])
+unfolding computing
+step-7 = refl
 
--- the states: of one rack, by its capacity, stored, taken in and given out
-abbrev rackBy : ℕ → ℕ → ℕ → ℕ → List ℕ
-rackBy capacity stored taken given = bytesOf 4 capacity ++ bytesOf 4 stored ++ bytesOf 8 taken ++ bytesOf 8 given
+-- 8. repeat answers the record of the cut call; its record is relied on, and not taken
+pub step-8 : Stepped page-ac (whole (repeats record-a c room)) 0 page-ac
+    (has buffer (record-ac ∷ []) ∷ has hashed (of-a ++ moving summary-a c ∷ of-ac) ∷ has found (record-a ∷ [])
+    ∷ has answered (bound summary-ac state-ac ∷ []) ∷ has needed (of-a ++ moving summary-a c ∷ of-ac)
+    ∷ has relied (record-a ∷ []) ∷ [])
+unfolding computing
+step-8 = refl
 
-abbrev pub state-0 : List ℕ
-state-0 = rackBy 0 0 0 0
+-- 9. a repeat of a request that is not behind the page's summary: 8; it has hashed the next summary
+pub step-9 : Stepped page-ac (whole (repeats record-a b room)) 8 page-ac
+    (has buffer (room ∷ []) ∷ has hashed (of-a ++ moving summary-a b ∷ []) ∷ has found (record-a ∷ []) ∷ [])
+unfolding computing
+step-9 = refl
 
-abbrev pub state-a : List ℕ
-state-a = rackBy 100 0 0 0
+-- 10. perform: the record of the cut call is taken
+pub step-10 : Stepped page-ac (whole (performs record-ac d room)) 0 page-acd
+    (has buffer (record-acd ∷ []) ∷ has moved (d ∷ []) ∷ has hashed (of-ac ++ moving summary-ac d ∷ of-acd)
+    ∷ has found (record-ac ∷ []) ∷ has taken (record-ac ∷ []) ∷ has answered (bound summary-acd state-acd ∷ [])
+    ∷ has needed (of-ac ++ moving summary-ac d ∷ of-acd) ∷ has relied (record-ac ∷ []) ∷ [])
+unfolding computing
+step-10 = refl
 
-abbrev pub state-ab : List ℕ
-state-ab = rackBy 100 60 60 0
+-- 11. past test 8, and refused behind it: 9; the record is taken
+pub step-11 : Stepped page-acd (whole (performs record-acd e room)) 9 page-acd
+    (has buffer (room ∷ []) ∷ has hashed of-acd ∷ has found (record-acd ∷ []) ∷ has taken (record-acd ∷ [])
+    ∷ has needed of-acd ∷ has relied (record-acd ∷ []) ∷ [])
+unfolding computing
+step-11 = refl
 
-abbrev pub state-ac : List ℕ
-state-ac = rackBy 100 30 30 0
+-- 12. the same, cut with the page of after; it would have been refused, so it answers and moves nothing
+pub step-12 : Stepped page-acd (cutAfter (performs record-acd e room)) 9 page-acd
+    (has buffer (room ∷ []) ∷ has hashed of-acd ∷ has found (record-acd ∷ []) ∷ has taken (record-acd ∷ [])
+    ∷ has needed of-acd ∷ has relied (record-acd ∷ []) ∷ [])
+unfolding computing
+step-12 = refl
 
-abbrev pub state-acd : List ℕ
-state-acd = rackBy 100 10 30 20
+-- 13. resume with both records current: the RAM one, and the disk one is not looked at
+pub step-13 : Stepped page-acd (whole (resumes record-acd record-acd)) 1 page-acd
+    (has hashed of-acd ∷ has found (record-acd ∷ []) ∷ has taken (record-acd ∷ []) ∷ has needed of-acd
+    ∷ has relied (record-acd ∷ []) ∷ [])
+unfolding computing
+step-13 = refl
 
--- the page's key, the fresh page, and a buffer for an answer: of 91 bytes, which is what a record of one rack takes
-abbrev pub key : List ℕ
-key = replicate 32 7
+-- 14. resume with an old record in RAM: the disk one
+pub step-14 : Stepped page-acd (whole (resumes record-ac record-acd)) 2 page-acd
+    (has hashed (of-ac ++ of-acd) ∷ has found (record-ac ∷ record-acd ∷ []) ∷ has taken (record-acd ∷ [])
+    ∷ has needed of-acd ∷ has relied (record-acd ∷ []) ∷ [])
+unfolding computing
+step-14 = refl
 
-abbrev pub fresh : List ℕ
-fresh = summary-0 ++ key
+-- 15. view of the forged record: 7; it is hashed, and not found valid
+pub step-15 : Stepped page-acd (whole (views record-forged 0)) 7 page-acd
+    (has hashed of-forged ∷ [])
+unfolding computing
+step-15 = refl
 
-abbrev pub room : List ℕ
-room = replicate 91 0
+-- 16. a request that is a byte short: 6
+pub step-16 : Stepped page-acd (whole (performs record-acd (drop 1 d) room)) 6 page-acd
+    (has buffer (room ∷ []) ∷ [])
+unfolding computing
+step-16 = refl
 
--- the records: length, version, state, summary, and the authenticator under the key
-abbrev recordBy : List ℕ → List ℕ → List ℕ → List ℕ
-recordBy summary state authenticator = 0 ∷ 89 ∷ 1 ∷ state ++ summary ++ authenticator
+-- 17. perform on the forged record: 7
+pub step-17 : Stepped page-acd (whole (performs record-forged d room)) 7 page-acd
+    (has buffer (room ∷ []) ∷ has hashed of-forged ∷ [])
+unfolding computing
+step-17 = refl
 
-abbrev answerOf : List ℕ → List ℕ → List ℕ
-answerOf summary state = recordBy summary state (toyHash (key ++ bound summary state))
+-- 18. a repeat with a buffer that is a byte short: 2
+pub step-18 : Stepped page-acd (whole (repeats record-ac d (drop 1 room))) 2 page-acd
+    (has buffer (drop 1 room ∷ []) ∷ [])
+unfolding computing
+step-18 = refl
 
-abbrev pub record-0 : List ℕ
-record-0 = answerOf summary-0 state-0
+-- 19. repeat of the forged record: 7
+pub step-19 : Stepped page-acd (whole (repeats record-forged d room)) 7 page-acd
+    (has buffer (room ∷ []) ∷ has hashed of-forged ∷ [])
+unfolding computing
+step-19 = refl
 
-abbrev pub record-a : List ℕ
-record-a = answerOf summary-a state-a
+-- 20. resume with two records that will not do: neither
+pub step-20 : Stepped page-acd (whole (resumes record-short record-forged)) 0 page-acd
+    (has hashed of-forged ∷ [])
+unfolding computing
+step-20 = refl
 
-abbrev pub record-ab : List ℕ
-record-ab = answerOf summary-ab state-ab
+-- 21. resume, cut, with the forged record in RAM: the disk one
+pub step-21 : Stepped page-acd (cutAfter (resumes record-forged record-acd)) 2 page-acd
+    (has hashed (of-forged ++ of-acd) ∷ has found (record-acd ∷ []) ∷ has taken (record-acd ∷ [])
+    ∷ has needed of-acd ∷ has relied (record-acd ∷ []) ∷ [])
+unfolding computing
+step-21 = refl
 
-abbrev pub record-ac : List ℕ
-record-ac = answerOf summary-ac state-ac
+-- 22. the side branch's record, which stays behind: 8
+pub step-22 : Stepped page-acd (whole (performs record-ab d room)) 8 page-acd
+    (has buffer (room ∷ []) ∷ has hashed of-ab ∷ has found (record-ab ∷ []) ∷ [])
+unfolding computing
+step-22 = refl
 
-abbrev pub record-acd : List ℕ
-record-acd = answerOf summary-acd state-acd
+-- 23. a record that is a byte short: 3
+pub step-23 : Stepped page-acd (whole (views record-short 0)) 3 page-acd []
+unfolding computing
+step-23 = refl
 
--- the site computer's own: a state that was not reached, under the page's summary, with an invented authenticator; and one byte too few
-abbrev pub record-forged : List ℕ
-record-forged = recordBy summary-acd state-ab (replicate 32 9)
+-- 24. open on a page that is not fresh: 13
+pub step-24 : Stepped page-acd (whole (opens room)) 13 page-acd
+    (has buffer (room ∷ []) ∷ [])
+unfolding computing
+step-24 = refl
 
-abbrev pub record-short : List ℕ
-record-short = drop 1 record-acd
+-- 25. a repeat, accepted and cut
+pub step-25 : Stepped page-acd (cutBefore (repeats record-ac d room)) 0 page-acd
+    (has buffer (record-acd ∷ []) ∷ has hashed (of-ac ++ moving summary-ac d ∷ of-acd) ∷ has found (record-ac ∷ [])
+    ∷ has answered (bound summary-acd state-acd ∷ []) ∷ has needed (of-ac ++ moving summary-ac d ∷ of-acd)
+    ∷ has relied (record-ac ∷ []) ∷ [])
+unfolding computing
+step-25 = refl
+
+-- 26. a view, cut
+pub step-26 : Stepped page-acd (cutBefore (views record-acd 0)) 0 page-acd
+    (has hashed of-acd ∷ has found (record-acd ∷ []) ∷ has taken (record-acd ∷ []) ∷ has needed of-acd
+    ∷ has relied (record-acd ∷ []) ∷ [])
+unfolding computing
+step-26 = refl
+
+-- 27. perform, cut with the page of before
+pub step-27 : Stepped page-acd (cutBefore (performs record-acd b room)) 0 page-acd
+    (has buffer (record-acdb ∷ []) ∷ has hashed (of-acd ++ moving summary-acd b ∷ of-acdb)
+    ∷ has found (record-acd ∷ []) ∷ has taken (record-acd ∷ []) ∷ has answered (bound summary-acdb state-acdb ∷ [])
+    ∷ has needed (of-acd ++ moving summary-acd b ∷ of-acdb) ∷ has relied (record-acd ∷ []) ∷ [])
+unfolding computing
+step-27 = refl
+
+-- 28. so repeat is refused: 8
+pub step-28 : Stepped page-acd (whole (repeats record-acd b room)) 8 page-acd
+    (has buffer (room ∷ []) ∷ has hashed (of-acd ++ moving summary-acd b ∷ []) ∷ has found (record-acd ∷ []) ∷ [])
+unfolding computing
+step-28 = refl
+
+-- 29. and the same perform is accepted, and answers the record of the cut call
+pub step-29 : Stepped page-acd (whole (performs record-acd b room)) 0 page-acdb
+    (has buffer (record-acdb ∷ []) ∷ has moved (b ∷ []) ∷ has hashed (of-acd ++ moving summary-acd b ∷ of-acdb)
+    ∷ has found (record-acd ∷ []) ∷ has taken (record-acd ∷ []) ∷ has answered (bound summary-acdb state-acdb ∷ [])
+    ∷ has needed (of-acd ++ moving summary-acd b ∷ of-acdb) ∷ has relied (record-acd ∷ []) ∷ [])
+unfolding computing
+step-29 = refl
+
+-- 30. which is current then
+pub step-30 : Stepped page-acdb (whole (views record-acdb 0)) 0 page-acdb
+    (has hashed of-acdb ∷ has found (record-acdb ∷ []) ∷ has taken (record-acdb ∷ []) ∷ has needed of-acdb
+    ∷ has relied (record-acdb ∷ []) ∷ [])
+unfolding computing
+step-30 = refl
+
+-- ---- a repeat that is refused behind test 8
+
+-- its record has the right authenticator for a state that no request gave, so no run that meets the premises has such a repeat; what it does
+-- is looked at by itself
+abbrev state-other : List ℕ
+state-other = rackBy 100 90 90 0
+
+pub barred-repeat : Stepped page-ac (whole (repeats (answerOf summary-a state-other) c room)) 9 page-ac
+    (has buffer (room ∷ []) ∷ has hashed (stating state-other ∷ binding summary-a state-other ∷ moving summary-a c ∷ [])
+    ∷ has found (answerOf summary-a state-other ∷ []) ∷ [])
+unfolding computing
+barred-repeat = refl
 
 -- ---- the run, the newest step first
 
 abbrev pub run : Run
 run =
-    -- 26. a view, cut
-    cutBefore (views record-acd 0)
-    -- 25. a repeat, accepted and cut
+    whole (views record-acdb 0)
+    ∷ whole (performs record-acd b room)
+    ∷ whole (repeats record-acd b room)
+    ∷ cutBefore (performs record-acd b room)
+    ∷ cutBefore (views record-acd 0)
     ∷ cutBefore (repeats record-ac d room)
-    -- 24. open on a page that is not fresh: 13
     ∷ whole (opens room)
-    -- 23. a record that is a byte short: 3
     ∷ whole (views record-short 0)
-    -- 22. the side branch's record, which stays behind: 8
     ∷ whole (performs record-ab d room)
-    -- 21. resume, cut, with the forged record in RAM: the disk one
     ∷ cutAfter (resumes record-forged record-acd)
-    -- 20. resume with two records that will not do: neither
     ∷ whole (resumes record-short record-forged)
-    -- 19. repeat of the forged record: 7
     ∷ whole (repeats record-forged d room)
-    -- 18. a repeat with a buffer that is a byte short: 2
     ∷ whole (repeats record-ac d (drop 1 room))
-    -- 17. perform on the forged record: 7
     ∷ whole (performs record-forged d room)
-    -- 16. a request that is a byte short: 6
     ∷ whole (performs record-acd (drop 1 d) room)
-    -- 15. view of the forged record: 7
     ∷ whole (views record-forged 0)
-    -- 14. resume with an old record in RAM: the disk one
     ∷ whole (resumes record-ac record-acd)
-    -- 13. resume with both records current: the RAM one
     ∷ whole (resumes record-acd record-acd)
-    -- 12. the same, cut, with the page of after; it would have been refused, so it moves nothing
     ∷ cutAfter (performs record-acd e room)
-    -- 11. past test 8, and refused behind it: 9
     ∷ whole (performs record-acd e room)
-    -- 10. perform: the record of the cut call is taken
     ∷ whole (performs record-ac d room)
-    -- 9. a repeat of a request that is not behind the page's summary: 8
     ∷ whole (repeats record-a b room)
-    -- 8. the page has moved: repeat is accepted, and answers the record of the cut call
     ∷ whole (repeats record-a c room)
-    -- 7. another request instead, cut with the page of after
     ∷ cutAfter (performs record-a c room)
-    -- 6. the record of the cut call: 8
     ∷ whole (views record-ab 0)
-    -- 5. perform, cut with the page of before: it answers a side branch
     ∷ cutBefore (performs record-a b room)
-    -- 4. view
     ∷ whole (views record-a 0)
-    -- 3. perform
     ∷ whole (performs record-0 a room)
-    -- 2. open again, cut
     ∷ cutBefore (opens room)
-    -- 1. open
     ∷ whole (opens room)
     ∷ []
-
--- to unfold this is to unfold all definitions that the calls are computed by
-unfoldable pub computing : Unit {0}
-unfolding toyHash zeroSummary openTests opened performed repeated viewed resumed performVerdict repeatVerdict viewVerdict resumeVerdict same part over beFrom be bytesOf tested rightSize rightVersion rightState goodState goodRack stateOf rackOf bytesOfRack bytesOfState bytesOfRequest firstState percent totalStored rightForm rightOther rightAmount wellFormed requestBy requestOf readRequest overCapacity overStored overLimit verdict carryOut book servedBytes storedAfter recordOf
-computing = tt
-
--- ---- what its calls did, the newest step first; the step's number stands above its entries
-
--- every message hashed for summaries, states and bindings: those of a record that reached test 7, of a repeat that reached test 8, and of the
--- record that an accepted call answers
-abbrev pub messages : List (List ℕ)
-messages =
-    -- 26
-    stating state-acd ∷ binding summary-acd state-acd
-    -- 25
-    ∷ stating state-ac ∷ binding summary-ac state-ac ∷ moving summary-ac d ∷ stating state-acd ∷ binding summary-acd state-acd
-    -- 22
-    ∷ stating state-ab ∷ binding summary-ab state-ab
-    -- 21
-    ∷ stating state-ab ∷ binding summary-acd state-ab ∷ stating state-acd ∷ binding summary-acd state-acd
-    -- 20
-    ∷ stating state-ab ∷ binding summary-acd state-ab
-    -- 19
-    ∷ stating state-ab ∷ binding summary-acd state-ab
-    -- 17
-    ∷ stating state-ab ∷ binding summary-acd state-ab
-    -- 15
-    ∷ stating state-ab ∷ binding summary-acd state-ab
-    -- 14
-    ∷ stating state-ac ∷ binding summary-ac state-ac ∷ stating state-acd ∷ binding summary-acd state-acd
-    -- 13
-    ∷ stating state-acd ∷ binding summary-acd state-acd
-    -- 12
-    ∷ stating state-acd ∷ binding summary-acd state-acd
-    -- 11
-    ∷ stating state-acd ∷ binding summary-acd state-acd
-    -- 10
-    ∷ stating state-ac ∷ binding summary-ac state-ac ∷ moving summary-ac d ∷ stating state-acd ∷ binding summary-acd state-acd
-    -- 9
-    ∷ stating state-a ∷ binding summary-a state-a ∷ moving summary-a b
-    -- 8
-    ∷ stating state-a ∷ binding summary-a state-a ∷ moving summary-a c ∷ stating state-ac ∷ binding summary-ac state-ac
-    -- 7
-    ∷ stating state-a ∷ binding summary-a state-a ∷ moving summary-a c ∷ stating state-ac ∷ binding summary-ac state-ac
-    -- 6
-    ∷ stating state-ab ∷ binding summary-ab state-ab
-    -- 5
-    ∷ stating state-a ∷ binding summary-a state-a ∷ moving summary-a b ∷ stating state-ab ∷ binding summary-ab state-ab
-    -- 4
-    ∷ stating state-a ∷ binding summary-a state-a
-    -- 3
-    ∷ stating state-0 ∷ binding summary-0 state-0 ∷ moving summary-0 a ∷ stating state-a ∷ binding summary-a state-a
-    -- 2
-    ∷ stating state-0 ∷ binding summary-0 state-0
-    -- 1
-    ∷ stating state-0 ∷ binding summary-0 state-0
-    ∷ []
-
-pub messages-are : gathered (byCall hashed toy) toy fresh run ≡ messages
-unfolding computing
-messages-are = refl
-
--- every binding found valid: of a record that passed test 7
-abbrev pub findings : List (List ℕ)
-findings =
-    -- 26
-    bound summary-acd state-acd
-    -- 25
-    ∷ bound summary-ac state-ac
-    -- 22
-    ∷ bound summary-ab state-ab
-    -- 21
-    ∷ bound summary-acd state-acd
-    -- 14
-    ∷ bound summary-ac state-ac ∷ bound summary-acd state-acd
-    -- 13
-    ∷ bound summary-acd state-acd
-    -- 12
-    ∷ bound summary-acd state-acd
-    -- 11
-    ∷ bound summary-acd state-acd
-    -- 10
-    ∷ bound summary-ac state-ac
-    -- 9
-    ∷ bound summary-a state-a
-    -- 8
-    ∷ bound summary-a state-a
-    -- 7
-    ∷ bound summary-a state-a
-    -- 6
-    ∷ bound summary-ab state-ab
-    -- 5
-    ∷ bound summary-a state-a
-    -- 4
-    ∷ bound summary-a state-a
-    -- 3
-    ∷ bound summary-0 state-0
-    ∷ []
-
-pub findings-are : gathered (byCall found toy) toy fresh run ≡ findings
-unfolding computing
-findings-are = refl
-
--- every record taken as current
-abbrev pub records : List (List ℕ)
-records =
-    -- 26
-    record-acd
-    -- 21
-    ∷ record-acd
-    -- 14
-    ∷ record-acd
-    -- 13
-    ∷ record-acd
-    -- 12
-    ∷ record-acd
-    -- 11
-    ∷ record-acd
-    -- 10
-    ∷ record-ac
-    -- 7
-    ∷ record-a
-    -- 5
-    ∷ record-a
-    -- 4
-    ∷ record-a
-    -- 3
-    ∷ record-0
-    ∷ []
-
-pub records-are : gathered (byCall taken toy) toy fresh run ≡ records
-unfolding computing
-records-are = refl
-
--- every binding answered, of cut calls too
-abbrev pub bindings : List (List ℕ)
-bindings =
-    -- 25
-    bound summary-acd state-acd
-    -- 10
-    ∷ bound summary-acd state-acd
-    -- 8
-    ∷ bound summary-ac state-ac
-    -- 7
-    ∷ bound summary-ac state-ac
-    -- 5
-    ∷ bound summary-ab state-ab
-    -- 3
-    ∷ bound summary-a state-a
-    -- 2
-    ∷ bound summary-0 state-0
-    -- 1
-    ∷ bound summary-0 state-0
-    ∷ []
-
-pub bindings-are : answeredBefore toy fresh run ≡ bindings
-unfolding computing
-bindings-are = refl
-
--- every request that moved the page
-abbrev pub requests : List (List ℕ)
-requests =
-    -- 10
-    d
-    -- 7
-    ∷ c
-    -- 3
-    ∷ a
-    ∷ []
-
-pub requests-are : movedBefore toy fresh run ≡ requests
-unfolding computing
-requests-are = refl
-
--- the smaller sets: the messages of records taken, or accepted by repeat, and of records answered
-abbrev pub messages-needed : List (List ℕ)
-messages-needed =
-    -- 26
-    stating state-acd ∷ binding summary-acd state-acd
-    -- 25
-    ∷ stating state-ac ∷ binding summary-ac state-ac ∷ moving summary-ac d ∷ stating state-acd ∷ binding summary-acd state-acd
-    -- 21
-    ∷ stating state-acd ∷ binding summary-acd state-acd
-    -- 14
-    ∷ stating state-acd ∷ binding summary-acd state-acd
-    -- 13
-    ∷ stating state-acd ∷ binding summary-acd state-acd
-    -- 12
-    ∷ stating state-acd ∷ binding summary-acd state-acd
-    -- 11
-    ∷ stating state-acd ∷ binding summary-acd state-acd
-    -- 10
-    ∷ stating state-ac ∷ binding summary-ac state-ac ∷ moving summary-ac d ∷ stating state-acd ∷ binding summary-acd state-acd
-    -- 8
-    ∷ stating state-a ∷ binding summary-a state-a ∷ moving summary-a c ∷ stating state-ac ∷ binding summary-ac state-ac
-    -- 7
-    ∷ stating state-a ∷ binding summary-a state-a ∷ moving summary-a c ∷ stating state-ac ∷ binding summary-ac state-ac
-    -- 5
-    ∷ stating state-a ∷ binding summary-a state-a ∷ moving summary-a b ∷ stating state-ab ∷ binding summary-ab state-ab
-    -- 4
-    ∷ stating state-a ∷ binding summary-a state-a
-    -- 3
-    ∷ stating state-0 ∷ binding summary-0 state-0 ∷ moving summary-0 a ∷ stating state-a ∷ binding summary-a state-a
-    -- 2
-    ∷ stating state-0 ∷ binding summary-0 state-0
-    -- 1
-    ∷ stating state-0 ∷ binding summary-0 state-0
-    ∷ []
-
-pub messages-needed-are : gathered (byCall needed toy) toy fresh run ≡ messages-needed
-unfolding computing
-messages-needed-are = refl
-
--- the findings of records taken, or accepted by repeat
-abbrev pub findings-relied : List (List ℕ)
-findings-relied =
-    -- 26
-    bound summary-acd state-acd
-    -- 25
-    ∷ bound summary-ac state-ac
-    -- 21
-    ∷ bound summary-acd state-acd
-    -- 14
-    ∷ bound summary-acd state-acd
-    -- 13
-    ∷ bound summary-acd state-acd
-    -- 12
-    ∷ bound summary-acd state-acd
-    -- 11
-    ∷ bound summary-acd state-acd
-    -- 10
-    ∷ bound summary-ac state-ac
-    -- 8
-    ∷ bound summary-a state-a
-    -- 7
-    ∷ bound summary-a state-a
-    -- 5
-    ∷ bound summary-a state-a
-    -- 4
-    ∷ bound summary-a state-a
-    -- 3
-    ∷ bound summary-0 state-0
-    ∷ []
-
-pub findings-relied-are : gathered (byCall relied toy) toy fresh run ≡ findings-relied
-unfolding computing
-findings-relied-are = refl
-
--- the number that each call answered, cut or not
-abbrev numberBy : List ℕ → Call → ℕ
-numberBy page (opens answer) = opened toy page answer .number
-numberBy page (performs l request answer) = performed toy page l request answer .number
-numberBy page (repeats l request answer) = repeated toy page l request answer .number
-numberBy page (views l rack) = viewed toy page l rack .number
-numberBy page (resumes inRam onDisk) = resumedNumber (resumed toy page inRam onDisk)
-
-abbrev numbers : Run → List ℕ
-numbers [] = []
-numbers (s ∷ older) = numberBy (pageAfter toy fresh older) (callOf s) ∷ numbers older
-
-pub numbers-are : numbers run ≡
-    -- 26 to 21
-    0 ∷ 0 ∷ 13 ∷ 3 ∷ 8 ∷ 2
-    -- 20 to 15
-    ∷ 0 ∷ 7 ∷ 2 ∷ 7 ∷ 6 ∷ 7
-    -- 14 to 9
-    ∷ 2 ∷ 1 ∷ 9 ∷ 9 ∷ 0 ∷ 8
-    -- 8 to 1
-    ∷ 0 ∷ 0 ∷ 8 ∷ 0 ∷ 0 ∷ 0 ∷ 0 ∷ 0
-    ∷ []
-unfolding computing
-numbers-are = refl
-
--- what each call's buffer holds afterwards, cut or not: the record that an accepted call answers, and else what it held
-abbrev answerBy : List ℕ → Call → List (List ℕ)
-answerBy page (opens answer) = opened toy page answer .answer ∷ []
-answerBy page (performs l request answer) = performed toy page l request answer .answer ∷ []
-answerBy page (repeats l request answer) = repeated toy page l request answer .answer ∷ []
-answerBy page (views l rack) = []
-answerBy page (resumes inRam onDisk) = []
-
-pub answers-are : gathered (λ page s. answerBy page (callOf s)) toy fresh run ≡
-    -- 25, 24, 22
-    record-acd ∷ room ∷ room
-    -- 19, 18, 17, 16
-    ∷ room ∷ drop 1 room ∷ room ∷ room
-    -- 12, 11, 10, 9
-    ∷ room ∷ room ∷ record-acd ∷ room
-    -- 8, 7, 5, 3, 2, 1
-    ∷ record-ac ∷ record-ac ∷ record-ab ∷ record-a ∷ record-0 ∷ record-0
-    ∷ []
-unfolding computing
-answers-are = refl
-
--- the page in the end
-pub page-is : pageAfter toy fresh run ≡ summary-acd ++ key
-unfolding computing
-page-is = refl
-
--- ---- the third condition, of each record taken
-
--- the requests that had moved the page when a record was taken, what they give, and what the record holds
-pub record Held : Type 0 where
-  pub requests : List (List ℕ)
-  pub gives : Served
-  pub holds : List ℕ
-
-abbrev heldBy : List (List ℕ) → List (List ℕ) → List Held
-heldBy requests [] = []
-heldBy requests (l ∷ ls) = record { requests = requests; gives = replayed toy requests; holds = toy .stateBytes l } ∷ heldBy requests ls
-
-abbrev held : Run → List Held
-held [] = []
-held (s ∷ older) = heldBy (movedBefore toy fresh older) (taken toy (pageAfter toy fresh older) (callOf s)) ++ held older
-
--- the requests give what the record holds
-abbrev agree : List (List ℕ) → List ℕ → Held
-agree requests state = record { requests = requests; gives = Served.carried state; holds = state }
-
-pub held-are : held run ≡
-    -- 26
-    agree (d ∷ c ∷ a ∷ []) state-acd
-    -- 21
-    ∷ agree (d ∷ c ∷ a ∷ []) state-acd
-    -- 14
-    ∷ agree (d ∷ c ∷ a ∷ []) state-acd
-    -- 13
-    ∷ agree (d ∷ c ∷ a ∷ []) state-acd
-    -- 12
-    ∷ agree (d ∷ c ∷ a ∷ []) state-acd
-    -- 11
-    ∷ agree (d ∷ c ∷ a ∷ []) state-acd
-    -- 10
-    ∷ agree (c ∷ a ∷ []) state-ac
-    -- 7
-    ∷ agree (a ∷ []) state-a
-    -- 5
-    ∷ agree (a ∷ []) state-a
-    -- 4
-    ∷ agree (a ∷ []) state-a
-    -- 3
-    ∷ agree [] state-0
-    ∷ []
-unfolding computing
-held-are = refl
-
--- ---- a repeat that is refused behind test 8
-
--- its record has the right authenticator for a state that no request gave, so no run that meets the premises has such a repeat; what it does
--- is looked at by itself, on the page after a and c
-abbrev state-other : List ℕ
-state-other = rackBy 100 90 90 0
-
-abbrev repeatOther : Call
-repeatOther = repeats (answerOf summary-a state-other) c room
-
-abbrev page-ac : List ℕ
-page-ac = summary-ac ++ key
-
-pub barred-repeat :
-    (numberBy page-ac repeatOther ≡ 9)
-    × (hashed toy page-ac repeatOther ≡ stating state-other ∷ binding summary-a state-other ∷ moving summary-a c ∷ [])
-    × (found toy page-ac repeatOther ≡ bound summary-a state-other ∷ [])
-    × (taken toy page-ac repeatOther ≡ [])
-    × (answered toy page-ac repeatOther ≡ [])
-    × (needed toy page-ac repeatOther ≡ [])
-    × (relied toy page-ac repeatOther ≡ [])
-unfolding computing
-barred-repeat = (refl, refl, refl, refl, refl, refl, refl)

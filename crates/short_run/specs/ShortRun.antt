@@ -34,12 +34,13 @@ use Rattle.hmac.specs.Hmac.{_⊕_, K₀, hmac}
 use Rattle.bindings.specs.Hashed.{authenticatorOf}
 use Rattle.answers.specs.Design.{Design}
 use Rattle.answers.specs.Hashing.{nextSummary, binding, bindingIn}
+use Rattle.answers.specs.Rows.{Origin}
 use Rattle.answers.specs.Judging.{Verdict, good, performVerdict, viewVerdict}
 use Rattle.answers.specs.Answers.{openTests, openedBy, opened, answeredBy, performed, viewedBy, viewed}
 use Rattle.answers.specs.Edition.{servedBytes, storedAfter, thisEdition}
-use Rattle.histories.specs.Runs.{opens, performs, views, whole, Run, gathered}
-use Rattle.histories.specs.Effects.{boundMessages, recordMessages, nextMessages, hashed, found, taken, byCall}
-use Rattle.histories.specs.Premises.{answeredBefore, movedBefore}
+use Rattle.histories.specs.Calls.{opens, performs, views}
+use Rattle.histories.specs.Did.{boundMessages, recordMessages, answerMessages, openDid, performDid}
+use Rattle.histories.specs.Runs.{whole, Run, movedBy, inRun, answeredBefore, movedBefore}
 
 -- ---- what the run is made of
 
@@ -58,6 +59,31 @@ abbrev pub summary-a : List ℕ
 summary-a =
     0xe3 ∷ 0x0f ∷ 0xf4 ∷ 0x0d ∷ 0xc6 ∷ 0x93 ∷ 0x04 ∷ 0x63 ∷ 0x45 ∷ 0x01 ∷ 0x26 ∷ 0xf3 ∷ 0x4f ∷ 0x17 ∷ 0xa6 ∷ 0xfd
     ∷ 0x8d ∷ 0xa7 ∷ 0x68 ∷ 0x2b ∷ 0x10 ∷ 0x42 ∷ 0xc0 ∷ 0x1f ∷ 0xd7 ∷ 0x71 ∷ 0xac ∷ 0x50 ∷ 0x04 ∷ 0x23 ∷ 0x99 ∷ 0x62
+    ∷ []
+
+-- the state hashes and the bindings
+abbrev pub hash-0 : List ℕ
+hash-0 =
+    0xae ∷ 0xcb ∷ 0x7d ∷ 0x4e ∷ 0x5d ∷ 0x02 ∷ 0x9c ∷ 0x8a ∷ 0x81 ∷ 0x30 ∷ 0xf2 ∷ 0x66 ∷ 0xf1 ∷ 0xf1 ∷ 0x3c ∷ 0xbf
+    ∷ 0x35 ∷ 0xbd ∷ 0x68 ∷ 0x25 ∷ 0x7a ∷ 0xfb ∷ 0x70 ∷ 0x52 ∷ 0x1d ∷ 0xf7 ∷ 0xad ∷ 0x63 ∷ 0xc3 ∷ 0xbf ∷ 0xb8 ∷ 0xe6
+    ∷ []
+
+abbrev pub hash-a : List ℕ
+hash-a =
+    0x73 ∷ 0x49 ∷ 0x79 ∷ 0x26 ∷ 0x9f ∷ 0xee ∷ 0x53 ∷ 0x10 ∷ 0xc7 ∷ 0x41 ∷ 0x09 ∷ 0x24 ∷ 0xec ∷ 0x71 ∷ 0x48 ∷ 0x57
+    ∷ 0xc7 ∷ 0x88 ∷ 0x8b ∷ 0xfa ∷ 0xbe ∷ 0xb2 ∷ 0xc1 ∷ 0x4d ∷ 0xce ∷ 0xd6 ∷ 0xbe ∷ 0x73 ∷ 0xbb ∷ 0x7e ∷ 0x56 ∷ 0xd2
+    ∷ []
+
+abbrev pub binding-0 : List ℕ
+binding-0 =
+    0x6e ∷ 0x12 ∷ 0x37 ∷ 0x79 ∷ 0x62 ∷ 0xc6 ∷ 0x0e ∷ 0xff ∷ 0x36 ∷ 0xf3 ∷ 0x92 ∷ 0xa4 ∷ 0xda ∷ 0xc0 ∷ 0x0e ∷ 0x51
+    ∷ 0xab ∷ 0xc2 ∷ 0x84 ∷ 0x8f ∷ 0x9a ∷ 0xc8 ∷ 0xd7 ∷ 0xa5 ∷ 0x45 ∷ 0x1d ∷ 0x65 ∷ 0x8e ∷ 0x78 ∷ 0x03 ∷ 0x33 ∷ 0x15
+    ∷ []
+
+abbrev pub binding-a : List ℕ
+binding-a =
+    0x91 ∷ 0x91 ∷ 0x45 ∷ 0x40 ∷ 0xf0 ∷ 0x87 ∷ 0x12 ∷ 0xcc ∷ 0x9b ∷ 0x8d ∷ 0xa3 ∷ 0xce ∷ 0x51 ∷ 0x28 ∷ 0x89 ∷ 0x30
+    ∷ 0x09 ∷ 0x86 ∷ 0x7b ∷ 0xf8 ∷ 0x66 ∷ 0xc9 ∷ 0xc4 ∷ 0x2d ∷ 0xf2 ∷ 0x96 ∷ 0xc8 ∷ 0xb7 ∷ 0x3d ∷ 0x7c ∷ 0xaa ∷ 0x5b
     ∷ []
 
 -- the authenticators, under a key of 32 bytes 07
@@ -101,15 +127,43 @@ unfoldable pub hashing : Unit {0}
 unfolding computing wordAt _⊞_ SHL SHR ROTR Ch Maj Σ₀ Σ₁ σ₀ σ₁ K H₀ k padding pad words block blocks nextWord schedule W T₁ T₂ round roundAt rounds addTo nextHash hashes digest sha256 _⊕_ K₀ hmac authenticatorOf
 hashing = tt
 
+-- the messages, in document 01's words
+abbrev pub stating : List ℕ → List ℕ
+stating state = 0x01 ∷ state
+
+abbrev pub moving : List ℕ → List ℕ → List ℕ
+moving summary request = 0x02 ∷ summary ++ request
+
+abbrev pub joining : List ℕ → List ℕ → List ℕ
+joining summary hash = 0x03 ∷ summary ++ hash
+
+-- ---- the five hashes
+
+pub state-0-is : sha256 (stating state-0) ≡ hash-0
+unfolding hashing
+state-0-is = refl
+
+pub state-a-is : sha256 (stating state-a) ≡ hash-a
+unfolding hashing
+state-a-is = refl
+
+pub summary-is : sha256 (moving zeroSummary a) ≡ summary-a
+unfolding hashing
+summary-is = refl
+
+pub binding-0-is : sha256 (joining zeroSummary hash-0) ≡ binding-0
+unfolding hashing
+binding-0-is = refl
+
+pub binding-a-is : sha256 (joining summary-a hash-a) ≡ binding-a
+unfolding hashing
+binding-a-is = refl
+
 -- ---- the three calls
 
 pub open-passes : openTests thisEdition fresh room ≡ Passed
 unfolding computing
 open-passes = refl
-
-pub summary-is : sha256 (0x02 ∷ zeroSummary ++ a) ≡ summary-a
-unfolding hashing
-summary-is = refl
 
 pub perform-is : performVerdict thisEdition fresh record-0 a room ≡ good state-a
 unfolding hashing
@@ -122,41 +176,38 @@ view-is = refl
 -- ---- what the run did
 
 -- a run of an open, a perform and a view, each accepted, over any design: its lists
-abbrev steps : List ℕ → List ℕ → List ℕ → List ℕ → ℕ → Run
+abbrev pub steps : List ℕ → List ℕ → List ℕ → List ℕ → ℕ → Run
 steps room l request m rack = whole (views m rack) ∷ whole (performs l request room) ∷ whole (opens room) ∷ []
 
-pub record Did (D : Design) (fresh : List ℕ) (run : Run) (messages findings records bindings requests : List (List ℕ)) : Type 0 where
-  pub hashes : gathered (byCall hashed D) D fresh run ≡ messages
-  pub finds : gathered (byCall found D) D fresh run ≡ findings
-  pub takes : gathered (byCall taken D) D fresh run ≡ records
+pub record RunDid (D : Design) (fresh : List ℕ) (run : Run) (messages findings records bindings requests : List (List ℕ)) : Type 0 where
+  pub hashes : inRun (λ d. d .hashed) D fresh run ≡ messages
+  pub finds : inRun (λ d. d .found) D fresh run ≡ findings
+  pub takes : inRun (λ d. d .taken) D fresh run ≡ records
   pub answers : answeredBefore D fresh run ≡ bindings
   pub moves : movedBefore D fresh run ≡ requests
 
 module _ (D : Design) (fresh room l request m after state shown : List ℕ) (rack : ℕ) (one : openTests D fresh room ≡ Passed)
     (two : performVerdict D fresh l request room ≡ good state) (page : D .withSummary fresh (nextSummary D (D .summary l) request) ≡ after)
     (three : viewVerdict D after m rack ≡ good shown) where
-  page-1 : opened D fresh room .page ≡ fresh
+  pub page-1 : openDid D (opened D fresh room .page) (openTests D fresh room) .page ≡ fresh
   unfolding opened
-  page-1 = ap (λ (t : Tested). openedBy D fresh room t .page) one
+  page-1 = rw one refl
 
-  page-2 : performed D (opened D fresh room .page) l request room .page ≡ after
+  pub page-2 : performDid D (performed D fresh l request room .page) l request (performVerdict D fresh l request room) .page ≡ after
   unfolding performed
-  page-2 =
-      ap (λ (p : List ℕ). performed D p l request room .page) page-1
-      ∙ ap (λ (v : Verdict). answeredBy D fresh l request room (D .withSummary fresh (nextSummary D (D .summary l) request)) v .page) two
-      ∙ page
+  page-2 = rw two page
 
-  did : Did D fresh (steps room l request m rack)
-      (recordMessages D m ++ (recordMessages D l ++ nextMessages D l request state) ++ boundMessages D zeroSummary (D .firstBytes))
-      (bindingIn D m ∷ bindingIn D l ∷ []) (m ∷ l ∷ [])
+  did : RunDid D fresh (steps room l request m rack)
+      (recordMessages D m ++ (recordMessages D l ++ answerMessages D (Origin.from l) (request ∷ []) state) ++ boundMessages D zeroSummary (D .firstBytes))
+      (m ∷ l ∷ []) (m ∷ l ∷ [])
       (binding D (nextSummary D (D .summary l) request) state ∷ binding D zeroSummary (D .firstBytes) ∷ []) (request ∷ [])
   did =
       record {
-        hashes = rw (page-2, page-1, three, two, one) refl;
-        finds = rw (page-2, page-1, three, two) refl;
-        takes = rw (page-2, page-1, three, two) refl;
-        answers = rw (page-1, two, one) refl;
-        moves = rw (page-1, two) refl;
+        hashes = rw (page-1, page-2, three, two, one) refl;
+        finds = rw (page-1, page-2, three, two, one) refl;
+        takes = rw (page-1, page-2, three, two, one) refl;
+        answers = rw (page-1, page-2, three, two, one) refl;
+        moves = rw (page-1, page-2, movedBy, three, two, one) refl;
       }
 
   accepted : (opened D fresh room .number ≡ 0) × (performed D fresh l request room .number ≡ 0)
@@ -168,34 +219,41 @@ module _ (D : Design) (fresh room l request m after state shown : List ℕ) (rac
     ap (viewedBy D rack) three,
   )
 
--- the messages, in document 01's words
-abbrev stating : List ℕ → List ℕ
-stating state = 0x01 ∷ state
-
-abbrev moving : List ℕ → List ℕ → List ℕ
-moving summary request = 0x02 ∷ summary ++ request
-
-abbrev joining : List ℕ → List ℕ → List ℕ
-joining summary state = 0x03 ∷ summary ++ sha256 (stating state)
-
 -- the page after the perform
-page-is : over 0 (sha256 (moving zeroSummary a)) fresh ≡ summary-a ++ key
+pub page-is : over 0 (sha256 (moving zeroSummary a)) fresh ≡ summary-a ++ key
 unfolding computing
 page-is = ap (λ (next : List ℕ). over 0 next fresh) summary-is
 
-pub the-run-did : Did thisEdition fresh (steps room record-0 a record-a 3)
-    -- messages: of the view, of the perform and of the open
-    (stating state-a ∷ joining summary-a state-a
-    ∷ stating state-0 ∷ joining zeroSummary state-0 ∷ moving zeroSummary a ∷ stating state-a ∷ joining (sha256 (moving zeroSummary a)) state-a
-    ∷ stating state-0 ∷ joining zeroSummary state-0
-    ∷ [])
-    -- findings, records taken, bindings answered and requests that moved the page
-    (sha256 (joining summary-a state-a) ∷ sha256 (joining zeroSummary state-0) ∷ [])
-    (record-a ∷ record-0 ∷ [])
-    (sha256 (joining (sha256 (moving zeroSummary a)) state-a) ∷ sha256 (joining zeroSummary state-0) ∷ [])
-    (a ∷ [])
+abbrev pub run : Run
+run = steps room record-0 a record-a 3
+
+-- of the view, of the perform and of the open
+abbrev pub messages : List (List ℕ)
+messages =
+    stating state-a ∷ joining summary-a hash-a
+    ∷ stating state-0 ∷ joining zeroSummary hash-0 ∷ moving zeroSummary a ∷ stating state-a ∷ joining summary-a hash-a
+    ∷ stating state-0 ∷ joining zeroSummary hash-0
+    ∷ []
+
+-- messages, findings, records taken, bindings answered and requests that moved the page
+pub the-run-did : RunDid thisEdition fresh run messages (record-a ∷ record-0 ∷ []) (record-a ∷ record-0 ∷ []) (binding-a ∷ binding-0 ∷ []) (a ∷ [])
 unfolding computing
-the-run-did = did thisEdition fresh room record-0 a record-a (summary-a ++ key) state-a state-a 3 open-passes perform-is page-is view-is
+the-run-did =
+    let d : RunDid thisEdition fresh run
+    (stating state-a ∷ joining summary-a (sha256 (stating state-a))
+    ∷ stating state-0 ∷ joining zeroSummary (sha256 (stating state-0)) ∷ moving zeroSummary a ∷ stating state-a ∷ joining (sha256 (moving zeroSummary a)) (sha256 (stating state-a))
+    ∷ stating state-0 ∷ joining zeroSummary (sha256 (stating state-0))
+    ∷ [])
+    (record-a ∷ record-0 ∷ []) (record-a ∷ record-0 ∷ [])
+    (sha256 (joining (sha256 (moving zeroSummary a)) (sha256 (stating state-a))) ∷ sha256 (joining zeroSummary (sha256 (stating state-0))) ∷ []) (a ∷ []) =
+    did thisEdition fresh room record-0 a record-a (summary-a ++ key) state-a state-a 3 open-passes perform-is page-is view-is in
+    record {
+      hashes = d .hashes ∙ rw (state-a-is, state-0-is, summary-is) refl;
+      finds = d .finds;
+      takes = d .takes;
+      answers = d .answers ∙ rw (state-a-is, state-0-is, summary-is, binding-a-is, binding-0-is) refl;
+      moves = d .moves;
+    }
 
 -- what they answered: 0, and the figures of rack 3
 pub numbers-are : (opened thisEdition fresh room .number ≡ 0) × (performed thisEdition fresh record-0 a room .number ≡ 0)

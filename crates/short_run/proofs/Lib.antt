@@ -1,0 +1,2 @@
+-- A run of the keeper that ships meets the condition's own premises.
+pub mod Premises

@@ -75,7 +75,7 @@ module _ (D : Design) (laws : Laws D) (page l request answer state room : List �
         number = refl;
         stored = rw (perform-is D page l request answer state accepted) refl;
         page = rw (perform-is D page l request answer state accepted) refl;
-        answer = rw uncut-front refl;
+        answer = ap (λ (r : List ℕ). over 0 r room) (sym uncut-front);
       })
 
   by-perform : ByPerform D (performed D page l request answer) page l request room

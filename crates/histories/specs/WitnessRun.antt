@@ -2,12 +2,13 @@
 -- that it took. Assumes nothing.
 use mathlib.Core.Path.{_≡_, refl}
 use Prim.Native.Nat.{ℕ}
-use mathlib.Core.List.{List, [], _∷_, _++_, reverse}
+use mathlib.Core.List.{List, [], _∷_, _++_}
 use Rattle.answers.specs.Design.{Served}
 use Rattle.answers.specs.Rows.{replayed}
-use Rattle.histories.specs.Runs.{Run, pageAfter, doneBy, answeredBefore, movedBefore}
+use Rattle.histories.specs.Calls.{opens}
+use Rattle.histories.specs.Runs.{whole, cutBefore, cutAfter, Run, pageAfter, doneBy, answeredBefore}
 use Rattle.histories.specs.Statements.{requestsBefore}
-use Rattle.histories.specs.Toy.{toy, bound, a, b, c, d, summary-0, summary-a, summary-ab, summary-ac, summary-acd, summary-acdb, state-0, state-a, state-ab, state-ac, state-acd, state-acdb, fresh, page-a, page-ac, page-acd, page-acdb, computing}
+use Rattle.histories.specs.Toy.{toy, bound, a, b, c, d, summary-0, state-0, state-a, state-ac, state-acd, state-acdb, fresh, page-a, page-ac, page-acd, page-acdb, room, computing}
 use Rattle.histories.specs.Witness.{run}
 
 -- the page after each step, the newest first
@@ -30,31 +31,11 @@ pub pages-are : pages run ≡
 unfolding computing
 pages-are = refl
 
--- the bindings answered, of cut calls too, and the requests that moved the page
-pub bindings-are : answeredBefore toy fresh run ≡
-    -- 29
-    bound summary-acdb state-acdb
-    -- 27
-    ∷ bound summary-acdb state-acdb
-    -- 25
-    ∷ bound summary-acd state-acd
-    -- 10
-    ∷ bound summary-acd state-acd
-    -- 8
-    ∷ bound summary-ac state-ac
-    -- 7
-    ∷ bound summary-ac state-ac
-    -- 5
-    ∷ bound summary-ab state-ab
-    -- 3
-    ∷ bound summary-a state-a
-    -- 2
-    ∷ bound summary-0 state-0
-    -- 1
-    ∷ bound summary-0 state-0
-    ∷ []
+-- what a cut call answered counts, and the requests that moved the page are in order
+pub cuts-count : answeredBefore toy fresh (cutAfter (opens room) ∷ cutBefore (opens room) ∷ whole (opens room) ∷ [])
+    ≡ bound summary-0 state-0 ∷ bound summary-0 state-0 ∷ bound summary-0 state-0 ∷ []
 unfolding computing
-bindings-are = refl
+cuts-count = refl
 
 pub requests-are : requestsBefore toy fresh run ≡ a ∷ c ∷ d ∷ b ∷ []
 unfolding computing

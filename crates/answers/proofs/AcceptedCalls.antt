@@ -1,4 +1,4 @@
--- An accepted open, perform and repeat, for every key and every summary of 32 bytes. The idea: the first state, bound to the summary, is a
+-- An accepted open, perform and repeat, for every key and every summary of 32 bytes, in buffers. The idea: the first state, bound to the summary, is a
 -- record that passes all tests, and a request that sets rack 0's capacity to 5 is carried out on it. Assumes nothing.
 use mathlib.Core.Path.{_≡_, sym, ap, _∙_}
 use Prim.Native.Nat.{ℕ, _≤_, _<_}
@@ -7,10 +7,13 @@ use mathlib.Core.List.{List}
 use lib.ListN.{length, replicate, length-replicate}
 use lib.Dec.{lit<}
 use borrow.Author.Tests.{eq-eqb}
+use Rattle.numbers.specs.Numbers.{Bytes}
+use Rattle.numbers.proofs.Bytes.{bytes-replicate}
 use Rattle.numbers.proofs.Comparison.{same-iff}
 use Rattle.racks.specs.Racks.{firstState}
 use Rattle.racks.specs.Layout.{bytesOfState}
 use Rattle.racks.specs.Edition.{racks}
+use Rattle.sha256.proofs.DigestLaws.{bytes-sha256}
 use Rattle.records.specs.Page.{hashSize, pageSize, pageSummary, pageKey, pageOf, zeroSummary}
 use Rattle.records.specs.Record.{recordSize, summary}
 use Rattle.records.specs.Edition.{recordVersion}
@@ -20,7 +23,7 @@ use Rattle.answers.specs.Answers.{Opened, opened, Performed, performed, 
 use Rattle.answers.specs.Edition.{thisEdition, servedBytes}
 use Rattle.answers.specs.Written.{Reads, Stands, front}
 use Rattle.answers.specs.Accepting.{Passing}
-use Rattle.answers.specs.Strength.{AcceptedOpen, AcceptedCall}
+use Rattle.answers.specs.Strength.{Buffer, Buffers, AcceptedOpen, AcceptedCall}
 use Rattle.answers.proofs.Tests.{open-passes}
 use Rattle.answers.proofs.Accepted.{perform-is, repeat-is, open-is}
 use Rattle.answers.proofs.States.{first-good}
@@ -28,6 +31,7 @@ use Rattle.answers.proofs.Records.{bound-reads}
 use Rattle.answers.proofs.ReadsBack.{length-zeroSummary, length-next, reads-back}
 use Rattle.answers.proofs.Keys.{open-page}
 use Rattle.answers.proofs.Witnesses.{a-current-record, asked, afterwards, asked-formed, served-first}
+use Rattle.answers.proofs.Buffers.{answer-buffer, asked-buffer, page-buffer, bound-buffer}
 
 -- a buffer of zeros, with just the room that is needed
 abbrev pub zeros : List ℕ
@@ -44,9 +48,19 @@ accepted-open key answer k fits =
     (record { right = eq-eqb _ _ (length-page zeroSummary key length-zeroSummary k); room = fits; fresh = page-summary zeroSummary key length-zeroSummary k }) in
     ap (λ (p : Opened). p .number) (open-is thisEdition (pageOf zeroSummary key) answer passed)
 
-pub an-accepted-open : (key : List ℕ) → length key ≡ hashSize → AcceptedOpen key
-an-accepted-open key k =
-    record { page = pageOf zeroSummary key; answer = zeros; keyIs = page-key zeroSummary key length-zeroSummary k; accepted = accepted-open key zeros k room }
+pub fresh-buffer : (key : List ℕ) → length key ≡ hashSize → Bytes key → Buffer (pageOf zeroSummary key)
+unfolding zeroSummary
+fresh-buffer key k b = page-buffer zeroSummary length-zeroSummary (bytes-replicate hashSize 0 (lit< tt)) key k b
+
+pub an-accepted-open : (key : List ℕ) → length key ≡ hashSize → Bytes key → AcceptedOpen key
+an-accepted-open key k b =
+    record {
+      page = pageOf zeroSummary key;
+      answer = zeros;
+      buffers = (fresh-buffer key k b, answer-buffer 0 (lit< tt));
+      keyIs = page-key zeroSummary key length-zeroSummary k;
+      accepted = accepted-open key zeros k room;
+    }
 
 -- ---- the others
 
@@ -87,18 +101,6 @@ module _ (key s : List ℕ) (k : length key ≡ hashSize) (w : length s ≡ hash
       let passes = first-passes (pageOf s key) (summary racks (firstBound key s)) (length-page s key w k) keyIs (first-reads (pageOf s key) keyIs .summaryIs ∙ sym (page-summary s key w k)) in
       ap (λ (p : Performed). p .number) (perform-is thisEdition (pageOf s key) (firstBound key s) asked zeros _ passes)
 
-  pub an-accepted-perform : AcceptedCall (performed thisEdition) key s
-  an-accepted-perform =
-      record {
-        page = pageOf s key;
-        offered = firstBound key s;
-        request = asked;
-        answer = zeros;
-        keyIs = page-key s key w k;
-        summaryIs = first-reads (pageOf s key) (page-key s key w k) .summaryIs;
-        accepted = accepted-perform;
-      }
-
   -- repeat, on the page that holds that summary moved on by the request
   pub accepted-repeat : repeated thisEdition (pageOf (movedOn s) key) (firstBound key s) asked zeros .number ≡ 0
   accepted-repeat =
@@ -108,18 +110,40 @@ module _ (key s : List ℕ) (k : length key ≡ hashSize) (w : length s ≡ hash
       (ap movedOn (first-reads (pageOf (movedOn s) key) keyIs .summaryIs) ∙ sym (page-summary (movedOn s) key wide k)) in
       ap (λ (p : Performed). p .number) (repeat-is thisEdition (pageOf (movedOn s) key) (firstBound key s) asked zeros _ passes)
 
-  pub an-accepted-repeat : AcceptedCall (repeated thisEdition) key s
-  an-accepted-repeat =
-      let keyIs = page-key (movedOn s) key (length-next racks recordVersion s asked) k in
-      record {
-        page = pageOf (movedOn s) key;
-        offered = firstBound key s;
-        request = asked;
-        answer = zeros;
-        keyIs = keyIs;
-        summaryIs = first-reads (pageOf (movedOn s) key) keyIs .summaryIs;
-        accepted = accepted-repeat;
-      }
+  -- both are lent buffers
+  module _ (kb : Bytes key) (sb : Bytes s) where
+    -- with the page that holds any summary of 32 bytes
+    pub first-buffers : (t : List ℕ) → length t ≡ hashSize → Bytes t → Buffers (pageOf t key) (firstBound key s) asked zeros
+    first-buffers t wide bytes =
+        (page-buffer t wide bytes key k kb, bound-buffer s w sb (pageOf s key) (firstState racks) (first-good racks .size), asked-buffer, answer-buffer 0 (lit< tt))
+
+    pub an-accepted-perform : AcceptedCall (performed thisEdition) key s
+    an-accepted-perform =
+        record {
+          page = pageOf s key;
+          offered = firstBound key s;
+          request = asked;
+          answer = zeros;
+          buffers = first-buffers s w sb;
+          keyIs = page-key s key w k;
+          summaryIs = first-reads (pageOf s key) (page-key s key w k) .summaryIs;
+          accepted = accepted-perform;
+        }
+
+    pub an-accepted-repeat : AcceptedCall (repeated thisEdition) key s
+    an-accepted-repeat =
+        let wide = length-next racks recordVersion s asked in
+        let keyIs = page-key (movedOn s) key wide k in
+        record {
+          page = pageOf (movedOn s) key;
+          offered = firstBound key s;
+          request = asked;
+          answer = zeros;
+          buffers = first-buffers (movedOn s) wide (bytes-sha256 _);
+          keyIs = keyIs;
+          summaryIs = first-reads (pageOf (movedOn s) key) keyIs .summaryIs;
+          accepted = accepted-repeat;
+        }
 
 -- open, and then perform with the record that it answered, on the same page
 pub open-then-perform : (key : List ℕ) → length key ≡ hashSize

@@ -5,6 +5,7 @@ use Prim.Native.Nat.{ℕ, _<_}
 use mathlib.Core.List.{List}
 use lib.ListN.{length}
 use borrow.Author.Tests.{eq-eqb, lt-ltb}
+use Rattle.numbers.specs.Numbers.{Bytes}
 use Rattle.racks.specs.Racks.{firstState}
 use Rattle.racks.specs.Layout.{stateOf, bytesOfState}
 use Rattle.racks.specs.Figures.{totalStored}
@@ -19,7 +20,7 @@ use Rattle.answers.specs.Answers.{viewed, viewedBy, isGood, Resumed, res
 use Rattle.answers.specs.Edition.{thisEdition}
 use Rattle.answers.specs.Strength.{AcceptedLook}
 use Rattle.answers.proofs.Witnesses.{first-back}
-use Rattle.answers.proofs.AcceptedCalls.{firstBound, first-stands, first-reads}
+use Rattle.answers.proofs.AcceptedCalls.{firstBound, first-stands, first-reads, first-buffers}
 
 module _ (key s : List ℕ) (k : length key ≡ hashSize) (w : length s ≡ hashSize) where
   -- nothing is stored in the first state
@@ -39,11 +40,13 @@ module _ (key s : List ℕ) (k : length key ≡ hashSize) (w : length s ≡ hash
   unfolding resumed
   hands-back onDisk = ap (λ v. resumedBy (isGood v) (isGood (resumeVerdict thisEdition (pageOf s key) onDisk))) (first-stands key s k w .resumes)
 
-  pub an-accepted-look : AcceptedLook key s
-  an-accepted-look =
+  pub an-accepted-look : Bytes key → Bytes s → AcceptedLook key s
+  an-accepted-look kb sb =
+      let buffers = first-buffers key s k w kb sb s w sb in
       record {
         page = pageOf s key;
         offered = firstBound key s;
+        buffers = (buffers .0, buffers .1);
         keyIs = page-key s key w k;
         summaryIs = first-reads key s k w (pageOf s key) (page-key s key w k) .summaryIs;
         shown = views-first;

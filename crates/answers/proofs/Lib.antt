@@ -15,6 +15,7 @@ pub mod Repeats
 pub mod Keys
 pub mod ThisEdition
 pub mod Witnesses
+pub mod Buffers
 pub mod AcceptedCalls
 pub mod AcceptedLooks
 pub mod Telling

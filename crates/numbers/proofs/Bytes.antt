@@ -4,7 +4,7 @@ use Prim.Native.Nat.{ℕ, zero, suc, _+_, _<_}
 use native.Mathlib.Nat.{mod-lt, zero-lt-suc}
 use native.Mathlib.Omega.{arith}
 use mathlib.Core.List.{List, [], _∷_, _++_}
-use lib.ListN.{length, take, drop}
+use lib.ListN.{length, take, drop, replicate}
 use lib.Seq.{getD-drop}
 use Rattle.numbers.specs.Numbers.{Bytes, bytesOf}
 use Rattle.numbers.specs.Parts.{part, over}
@@ -17,6 +17,11 @@ bytes-nil i = omega arith
 pub bytes-cons : (x : ℕ) (l : List ℕ) → x < 256 → Bytes l → Bytes (x ∷ l)
 bytes-cons x l h k zero = h
 bytes-cons x l h k (suc i) = k i
+
+-- one byte n times
+pub bytes-replicate : (n x : ℕ) → x < 256 → Bytes (replicate n x)
+bytes-replicate zero x h = bytes-nil
+bytes-replicate (suc n) x h = bytes-cons x (replicate n x) h (bytes-replicate n x h)
 
 -- end to end
 pub bytes-append : (a b : List ℕ) → Bytes a → Bytes b → Bytes (a ++ b)

@@ -1,11 +1,12 @@
--- A page reads back as what was written, and is what its fields make. Assumes nothing.
+-- A page reads back as what was written, is what its fields make, and is bytes where they are. Assumes nothing.
 use mathlib.Core.Path.{_≡_, ap, ap₂, _∙_}
 use Prim.Native.Nat.{ℕ}
 use native.Mathlib.Omega.{arith}
 use mathlib.Core.List.{List, [], _∷_, map}
 use lib.ListN.{length, getD}
+use Rattle.numbers.specs.Numbers.{Bytes}
 use Rattle.numbers.specs.Parts.{size, cutAt, join}
-use Rattle.numbers.proofs.Forms.{part-whole}
+use Rattle.numbers.proofs.Forms.{part-whole, bytes-join}
 use Rattle.numbers.proofs.Layouts.{length-join, join-cutAt, cutAt-join}
 use Rattle.records.specs.Page.{hashSize, pageWidths, pageSize, pageSummary, pageKey, pageOf}
 
@@ -27,6 +28,10 @@ module _ (summary key : List ℕ) (s : length summary ≡ hashSize) (k : length 
   pub length-page : length (pageOf summary key) ≡ pageSize
   unfolding pageOf
   length-page = length-join (summary ∷ key ∷ []) ∙ omega arith
+
+pub bytes-page : (summary key : List ℕ) → Bytes summary → Bytes key → Bytes (pageOf summary key)
+unfolding pageOf
+bytes-page summary key s k = bytes-join (summary ∷ key ∷ []) (s, (k, tt))
 
 -- writing what was read
 pub page-again : (p : List ℕ) → length p ≡ pageSize → pageOf (pageSummary p) (pageKey p) ≡ p

@@ -1,5 +1,5 @@
--- A record reads back as what was written, and is what its fields make, whatever the number of racks and the version.
--- Assumes nothing.
+-- A record reads back as what was written, is what its fields make, and is bytes where they are, whatever the number of racks and the
+-- version. Assumes nothing.
 use mathlib.Core.Path.{_≡_, sym, ap, ap₂, _∙_}
 use mathlib.Core.Bool.{true, and-eq-true-iff}
 use Prim.Native.Nat.{ℕ, _+_, _-_, _^_, _<_}
@@ -11,9 +11,9 @@ use borrow.Author.Tests.{eqb-true, eq-eqb}
 use Rattle.numbers.specs.Numbers.{be, bytesOf, Bytes}
 use Rattle.numbers.specs.Parts.{size, join}
 use Rattle.numbers.proofs.Numbers.{length-bytesOf, be-bytesOf}
-use Rattle.numbers.proofs.Bytes.{bytes-part}
+use Rattle.numbers.proofs.Bytes.{bytes-part, bytes-bytesOf}
 use Rattle.numbers.proofs.Parts.{length-part}
-use Rattle.numbers.proofs.Forms.{part-whole}
+use Rattle.numbers.proofs.Forms.{part-whole, bytes-join}
 use Rattle.numbers.proofs.Layouts.{length-join, join-cutAt}
 use Rattle.records.specs.Page.{hashSize}
 use Rattle.records.specs.Record.{stateSize, recordWidths, recordSize, fields, lengthField, versionField, stateBytes, summary, authenticator, recordOf, header, rightSize, rightVersion}
@@ -71,6 +71,11 @@ module _ (n v : ℕ) (st su au : List ℕ) (s : length st ≡ stateSize n) (u : 
   pub record-begins : recordOf n v st su au ≡ header n v ++ st ++ su ++ au
   unfolding recordOf header
   record-begins = simp (append-assoc, append-nil)
+
+pub bytes-record : (n v : ℕ) (st su au : List ℕ) → Bytes st → Bytes su → Bytes au → Bytes (recordOf n v st su au)
+unfolding recordOf
+bytes-record n v st su au s u a =
+    bytes-join (bytesOf 2 (recordSize n - 2) ∷ bytesOf 1 v ∷ st ∷ su ∷ au ∷ []) (bytes-bytesOf 2 (recordSize n - 2), (bytes-bytesOf 1 v, (s, (u, (a, tt)))))
 
 -- ---- writing what was read
 pub record-again : (n v : ℕ) (l : List ℕ) → Bytes l → rightSize n l ≡ true → rightVersion n v l ≡ true

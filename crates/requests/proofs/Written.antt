@@ -9,8 +9,9 @@ use borrow.Author.Tests.{le-leb, lt-ltb}
 use Rattle.numbers.specs.Numbers.{be, bytesOf, Bytes}
 use Rattle.numbers.specs.Parts.{size, cutAt, join}
 use Rattle.numbers.proofs.Numbers.{length-bytesOf, be-bytesOf}
+use Rattle.numbers.proofs.Bytes.{bytes-bytesOf}
 use Rattle.numbers.proofs.Layouts.{length-join, join-cutAt, cutAt-join}
-use Rattle.numbers.proofs.Forms.{part-whole, rewritten, rewritten-cutAt}
+use Rattle.numbers.proofs.Forms.{part-whole, rewritten, rewritten-cutAt, bytes-join}
 use Rattle.racks.specs.Rule.{amountLimit}
 use Rattle.requests.specs.declared.Reading.the-variants.{Formed}
 use Rattle.requests.specs.Layout.{requestWidths, requestSize, kind, rack, other, amount, fieldsOfRequest, bytesOfRequest}
@@ -27,6 +28,10 @@ module _ (k i o a : ℕ) where
   pub length-written : length (bytesOfRequest k i o a) ≡ requestSize
   unfolding bytesOfRequest
   length-written = length-join (fieldsOfRequest k i o a) ∙ ap size widths
+
+  pub bytes-written : Bytes (bytesOfRequest k i o a)
+  unfolding bytesOfRequest
+  bytes-written = bytes-join (fieldsOfRequest k i o a) (bytes-bytesOf _ _, (bytes-bytesOf _ _, (bytes-bytesOf _ _, (bytes-bytesOf _ _, (bytes-bytesOf _ _, (bytes-bytesOf _ _, tt))))))
 
   cut : cutAt 0 requestWidths (bytesOfRequest k i o a) ≡ fieldsOfRequest k i o a
   unfolding bytesOfRequest

@@ -1,4 +1,4 @@
--- The digest's bytes, written four at a time behind those that stand there, and how many they are. Assumes nothing.
+-- The digest's bytes, written four at a time behind those that stand there, how many they are, and that they are bytes. Assumes nothing.
 use mathlib.Core.Path.{_≡_, refl, ap, _∙_}
 use Prim.Native.Nat.{ℕ, zero, suc, _+_, _*_, _/_, _%_, _≤_}
 use native.Mathlib.Numerals.{add-one}
@@ -6,8 +6,9 @@ use native.Mathlib.Nat.{div-one}
 use native.Mathlib.Omega.{arith}
 use mathlib.Core.List.{List, [], _∷_, _++_}
 use lib.ListN.{length, take, set, getD, length-append}
-use Rattle.numbers.specs.Numbers.{bytesOf}
+use Rattle.numbers.specs.Numbers.{bytesOf, Bytes}
 use Rattle.numbers.proofs.Numbers.{length-bytesOf}
+use Rattle.numbers.proofs.Bytes.{bytes-nil, bytes-append, bytes-bytesOf}
 use Rattle.sha256.specs.Computation.{digest, sha256}
 use Rattle.sha256.proofs.Growing.{four-more}
 
@@ -30,3 +31,13 @@ length-digest H (suc n) = length-append (digest H n) (bytesOf 4 (getD H n 0)) �
 pub length-sha256 : (m : List ℕ) → length (sha256 m) ≡ 32
 unfolding sha256
 length-sha256 m = length-digest _ 8
+
+-- it is bytes
+bytes-digest : (H : List ℕ) (n : ℕ) → Bytes (digest H n)
+unfolding digest
+bytes-digest H zero = bytes-nil
+bytes-digest H (suc n) = bytes-append (digest H n) (bytesOf 4 (getD H n 0)) (bytes-digest H n) (bytes-bytesOf 4 (getD H n 0))
+
+pub bytes-sha256 : (m : List ℕ) → Bytes (sha256 m)
+unfolding sha256
+bytes-sha256 m = bytes-digest _ 8

@@ -1,10 +1,11 @@
 -- What is proved: perform is the report's LL1PerformOperation and repeat its LL1RepeatOperation. A call that the tests 1 to 6 and the
 -- charge rules let pass is accepted just where the action is enabled; an accepted call is the action; and the action leaves nothing else
--- open, so that it is that call. A refused call leaves page and answer buffer as they were. Assumes nothing.
+-- open, so that it is that call. A refused call leaves page and answer buffer as they were. The private state is empty throughout.
+-- Assumes nothing.
 use mathlib.Core.Path.{_≡_}
 use mathlib.Core.Logic.{_↔_}
 use Prim.Native.Nat.{ℕ}
-use mathlib.Core.List.{List, List·Memᴰ}
+use mathlib.Core.List.{List, [], List·Memᴰ}
 use Rattle.answers.specs.Answers.{Performed, performed, repeated}
 use Rattle.answers.specs.Edition.{design}
 use Rattle.memoir.specs.Storage.{LL1Vars}
@@ -50,3 +51,13 @@ pub record OtherwiseStays (n v : ℕ) : Type 0 where
       → Stays n page l answer vars (performed (design n v) page l request answer)
   pub repeats : (page l request answer : List ℕ) (vars : LL1Vars) → (repeated (design n v) page l request answer .number ≡ 0 → ⊥)
       → Stays n page l answer vars (repeated (design n v) page l request answer)
+
+-- the private state is empty: so is what either action decrypts, whatever the variables, and what the service gives anew, whatever the
+-- input, carried out or barred; and of it the report's SymmetricCryptoCorrect holds, 'decryption is the inverse of encryption with the
+-- same key'
+pub record PrivateStateIsEmpty (n : ℕ) : Type 0 where
+  pub performDecrypts : (vars : LL1Vars) → Perform.privateState (constants n) vars ≡ []
+  pub performGives : (vars : LL1Vars) (input : List ℕ) → Perform.sResult (constants n) vars input .newPrivateState ≡ []
+  pub repeatDecrypts : (vars : LL1Vars) → Repeat.privateState (constants n) vars ≡ []
+  pub repeatGives : (vars : LL1Vars) (input : List ℕ) → Repeat.sResult (constants n) vars input .newPrivateState ≡ []
+  pub inverse : (key : List ℕ) → constants n .SymmetricDecrypt key (constants n .SymmetricEncrypt key []) ≡ []

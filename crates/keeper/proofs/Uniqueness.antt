@@ -1,10 +1,11 @@
 -- Uniqueness, of the contracts themselves: two outcomes that meet a call's promise on the same arguments are the same outcome, in the
 -- answer, the page and the answer buffer. `Post` is what a function's `ensures` says of its arguments, its result and its parameters at
--- exit. Assumes nothing.
-use mathlib.Core.Path.{_≡_, sym, ap, _∙_}
+-- exit. Open and repeat are lent the page by `&`: a clause sees it at exit as it was passed, so that what it held at entry is what it
+-- holds at exit, and their `ensures` reads it at entry. Assumes nothing.
+use mathlib.Core.Path.{_≡_, refl, sym, ap, _∙_}
 use Prim.Native.Nat.{ℕ}
 use contract.Lifetimes.{Lfts}
-use denote.Triple.Clauses.{AtExit}
+use denote.Triple.Clauses.{Lasts, AtExit, atExit}
 use denote.Ref.{now}
 use borrow.Fn.Kinds.{Dens, endedOf, resT}
 use Rattle.keeper.specs.Lent.{Lent}
@@ -108,3 +109,21 @@ pub keeper-resume-unique : (κs : Lfts 3) (a : Dens κs keeper-resume-kinds.ps) 
     → keeper-resume-reads.Post κs a r s → keeper-resume-reads.Post κs a r' s'
     → r ≡ r'
 keeper-resume-unique κs a r r' s s' p q = p ∙ sym q
+
+-- ---- the page of open and of repeat at exit, whatever the last values of the other parameters
+
+pub open-page-kept : (κs : Lfts 2) (a : Dens κs open-kinds.ps) (ws : Lasts (endedOf 2 open-kinds.ps open-kinds.r) κs a)
+    → now (atExit (endedOf 2 open-kinds.ps open-kinds.r) κs a ws .0) ≡ now (a .0)
+open-page-kept κs a ws = refl
+
+pub repeat-page-kept : (κs : Lfts 4) (a : Dens κs repeat-kinds.ps) (ws : Lasts (endedOf 4 repeat-kinds.ps repeat-kinds.r) κs a)
+    → now (atExit (endedOf 4 repeat-kinds.ps repeat-kinds.r) κs a ws .0) ≡ now (a .0)
+repeat-page-kept κs a ws = refl
+
+pub keeper-open-page-kept : (κs : Lfts 2) (a : Dens κs keeper-open-kinds.ps) (ws : Lasts (endedOf 2 keeper-open-kinds.ps keeper-open-kinds.r) κs a)
+    → now (atExit (endedOf 2 keeper-open-kinds.ps keeper-open-kinds.r) κs a ws .0) ≡ now (a .0)
+keeper-open-page-kept κs a ws = refl
+
+pub keeper-repeat-page-kept : (κs : Lfts 4) (a : Dens κs keeper-repeat-kinds.ps) (ws : Lasts (endedOf 4 keeper-repeat-kinds.ps keeper-repeat-kinds.r) κs a)
+    → now (atExit (endedOf 4 keeper-repeat-kinds.ps keeper-repeat-kinds.r) κs a ws .0) ≡ now (a .0)
+keeper-repeat-page-kept κs a ws = refl

@@ -7,7 +7,7 @@ use mathlib.Core.List.{List}
 use borrow.Author.Tests.{eqb-true}
 use Rattle.records.specs.declared.Tested.{Tested}
 use Rattle.records.specs.declared.Tested.the-variants.{Passed, Refused}
-use Rattle.records.specs.Page.{pageKey}
+use Rattle.records.specs.Page.{pageKey, pageOf}
 use Rattle.records.specs.Record.{summary}
 use Rattle.answers.specs.Design.{Design}
 use Rattle.answers.specs.Hashing.{nextSummary}
@@ -16,7 +16,7 @@ use Rattle.answers.specs.Answers.{Performed, openTests, openedBy, opened
 use Rattle.answers.specs.Edition.{design}
 use Rattle.answers.specs.Unchanged.{KeyStays}
 use Rattle.answers.proofs.Accepted.{perform-passed, perform-is}
-use Rattle.answers.proofs.Pages.{key-put}
+use Rattle.answers.proofs.Pages.{key-put, page-put}
 use Rattle.answers.proofs.Refusals.{refusals-change-nothing}
 use Rattle.answers.proofs.ReadsBack.{length-next}
 
@@ -50,5 +50,12 @@ perform-key n v page l request answer = by (ℕ-discrete (performed (design n v)
         ∙ key-put page (nextSummary (design n v) (summary n l) request) (eqb-true _ _ (p .right)) (length-next n v (summary n l) request)
     by (no refused) = ap pageKey (refusals-change-nothing (design n v) .performs page l request answer refused .pageStays)
 
+perform-moves : (n v : ℕ) (page l request answer : List ℕ) → performed (design n v) page l request answer .number ≡ 0
+    → performed (design n v) page l request answer .page ≡ pageOf (nextSummary (design n v) (summary n l) request) (pageKey page)
+perform-moves n v page l request answer accepted =
+    let (state, p) = perform-passed (design n v) page l request answer accepted in
+    ap (λ (p : Performed). p .page) (perform-is (design n v) page l request answer state p)
+    ∙ page-put page (nextSummary (design n v) (summary n l) request) (eqb-true _ _ (p .right)) (length-next n v (summary n l) request)
+
 pub key-stays : (n v : ℕ) → KeyStays n v
-key-stays n v = record { opens = open-page (design n v); performs = perform-key n v; repeats = repeat-page (design n v) }
+key-stays n v = record { opens = open-page (design n v); performs = perform-key n v; repeats = repeat-page (design n v); moves = perform-moves n v }

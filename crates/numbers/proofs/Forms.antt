@@ -4,13 +4,13 @@ use mathlib.Core.Path.{_≡_, refl, ap}
 use Prim.Native.Nat.{ℕ, suc, _+_, _≤_}
 use native.Mathlib.Nat.{le-refl}
 use native.Mathlib.Omega.{arith}
-use mathlib.Core.List.{List, [], _∷_}
+use mathlib.Core.List.{List, [], _∷_, map}
 use lib.ListN.{length}
 use lib.Seq.{take-all}
-use Rattle.numbers.specs.Numbers.{be, bytesOf, Bytes}
-use Rattle.numbers.specs.Parts.{part, size, cutAt, join}
-use Rattle.numbers.proofs.Numbers.{bytesOf-be}
-use Rattle.numbers.proofs.Bytes.{bytes-nil, bytes-append, bytes-part}
+use Rattle.numbers.specs.Numbers.{be, Bytes}
+use Rattle.numbers.specs.Parts.{part, size, cutAt, fieldsOf, join}
+use Rattle.numbers.proofs.Numbers.{length-bytesOf, bytesOf-be}
+use Rattle.numbers.proofs.Bytes.{bytes-nil, bytes-append, bytes-part, bytes-bytesOf}
 use Rattle.numbers.proofs.Parts.{length-part, part-part}
 
 -- the whole is a part
@@ -31,17 +31,18 @@ pub length-cutAt : (at : ℕ) (ws l : List ℕ) → length (cutAt at ws l) ≡ l
 length-cutAt at [] l = refl
 length-cutAt at (w ∷ ws) l = ap suc (length-cutAt (at + w) ws l)
 
--- the fields of l, read as numbers and written again
-abbrev pub rewritten : ℕ → List ℕ → List ℕ → List (List ℕ)
-rewritten at [] l = []
-rewritten at (w ∷ ws) l = bytesOf w (be (part at w l)) ∷ rewritten (at + w) ws l
+-- numbers written in widths, one for each, have these widths
+pub widths-fieldsOf : (ws xs : List ℕ) → length xs ≡ length ws → map length (fieldsOf ws xs) ≡ ws
+widths-fieldsOf [] xs e = refl
+widths-fieldsOf (w ∷ ws) [] e = absurd (omega arith)
+widths-fieldsOf (w ∷ ws) (x ∷ xs) e = rw (length-bytesOf w x, widths-fieldsOf ws xs (omega arith))
 
--- are the fields of l
-pub rewritten-cutAt : (at : ℕ) (ws l : List ℕ) → Bytes l → at + size ws ≤ length l → rewritten at ws l ≡ cutAt at ws l
-rewritten-cutAt at [] l bytes fits = refl
-rewritten-cutAt at (w ∷ ws) l bytes fits =
+-- the parts of l, read as numbers and written again, are the parts of l
+pub fieldsOf-cutAt : (at : ℕ) (ws l : List ℕ) → Bytes l → at + size ws ≤ length l → fieldsOf ws (map be (cutAt at ws l)) ≡ cutAt at ws l
+fieldsOf-cutAt at [] l bytes fits = refl
+fieldsOf-cutAt at (w ∷ ws) l bytes fits =
     let first = bytesOf-be w (part at w l) (length-part at w l (omega arith)) (bytes-part at w l bytes) in
-    rw (first, rewritten-cutAt (at + w) ws l bytes (omega arith))
+    rw (first, fieldsOf-cutAt (at + w) ws l bytes (omega arith))
 
 -- each of the parts is one of bytes
 abbrev pub AllBytes : List (List ℕ) → Type 0
@@ -52,3 +53,9 @@ AllBytes (p ∷ ps) = Bytes p × AllBytes ps
 pub bytes-join : (ps : List (List ℕ)) → AllBytes ps → Bytes (join ps)
 bytes-join [] all = bytes-nil
 bytes-join (p ∷ ps) all = bytes-append p (join ps) (all .0) (bytes-join ps (all .1))
+
+-- as those are that numbers make
+pub bytes-fieldsOf : (ws xs : List ℕ) → AllBytes (fieldsOf ws xs)
+bytes-fieldsOf [] xs = tt
+bytes-fieldsOf (w ∷ ws) [] = tt
+bytes-fieldsOf (w ∷ ws) (x ∷ xs) = (bytes-bytesOf w x, bytes-fieldsOf ws xs)

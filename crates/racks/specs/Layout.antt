@@ -3,8 +3,8 @@
 use Prim.Native.Nat.{ℕ, _^_, _<_}
 use mathlib.Core.List.{List, [], _∷_, map}
 use lib.ListN.{getD, replicate}
-use Rattle.numbers.specs.Numbers.{be, bytesOf}
-use Rattle.numbers.specs.Parts.{size, cutAt, join}
+use Rattle.numbers.specs.Numbers.{be}
+use Rattle.numbers.specs.Parts.{size, cutAt, fieldsOf, join}
 use Rattle.racks.specs.declared.Rack.{Rack}
 use Rattle.racks.specs.Racks.{State}
 
@@ -20,9 +20,12 @@ rackSize = size rackWidths
 abbrev pub rackOfFields : List (List ℕ) → Rack
 rackOfFields fs = record { capacity = be (getD fs 0 []); stored = be (getD fs 1 []); taken = be (getD fs 2 []); given = be (getD fs 3 []) }
 
--- the bytes of a rack's fields
+-- the figures of a rack, in the order of its fields, and the bytes of these fields
+abbrev pub numbersOfRack : Rack → List ℕ
+numbersOfRack r = r .capacity ∷ r .stored ∷ r .taken ∷ r .given ∷ []
+
 abbrev pub fieldsOfRack : Rack → List (List ℕ)
-fieldsOfRack r = bytesOf 4 (r .capacity) ∷ bytesOf 4 (r .stored) ∷ bytesOf 8 (r .taken) ∷ bytesOf 8 (r .given) ∷ []
+fieldsOfRack r = fieldsOf rackWidths (numbersOfRack r)
 
 -- the rack that bytes stand for
 unfoldable pub rackOf : List ℕ → Rack

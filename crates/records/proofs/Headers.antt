@@ -17,7 +17,7 @@ use Rattle.numbers.proofs.Numbers.{length-bytesOf, be-bytesOf, bytesOf-be}
 use Rattle.numbers.proofs.Bytes.{bytes-part}
 use Rattle.numbers.proofs.Parts.{length-part}
 use Rattle.numbers.proofs.Layouts.{length-join}
-use Rattle.records.specs.Record.{recordSize, lengthField, header, rightSize, rightVersion, Described}
+use Rattle.records.specs.Record.{recordSize, lengthField, headerFields, header, rightSize, rightVersion, Described}
 use Rattle.numbers.proofs.Comparison.{same-iff}
 
 -- a field of w bytes is the bytes of the number that it holds
@@ -40,7 +40,7 @@ same-number w x l wide bytes fits = go (same l (bytesOf w x)) refl
 -- how long it is, and what it begins with
 pub length-header : (n v : ℕ) → length (header n v) ≡ 3
 unfolding header
-length-header n v = length-join (bytesOf 2 (recordSize n - 2) ∷ bytesOf 1 v ∷ []) ∙ omega (arith, length-bytesOf 2 (recordSize n - 2), length-bytesOf 1 v)
+length-header n v = length-join (headerFields n v) ∙ omega (arith, length-bytesOf 2 (recordSize n - 2), length-bytesOf 1 v)
 
 header-length : (n v : ℕ) → part 0 2 (header n v) ≡ bytesOf 2 (recordSize n - 2)
 unfolding header part

@@ -8,7 +8,7 @@ use mathlib.Core.List.{List, [], _∷_, _++_, map, append-assoc, append-nil}
 use lib.ListN.{length, getD}
 use lib.Dec.{eqb}
 use borrow.Author.Tests.{eqb-true, eq-eqb}
-use Rattle.numbers.specs.Numbers.{be, bytesOf, Bytes}
+use Rattle.numbers.specs.Numbers.{be, Bytes}
 use Rattle.numbers.specs.Parts.{size, join}
 use Rattle.numbers.proofs.Numbers.{length-bytesOf, be-bytesOf}
 use Rattle.numbers.proofs.Bytes.{bytes-part, bytes-bytesOf}
@@ -16,7 +16,7 @@ use Rattle.numbers.proofs.Parts.{length-part}
 use Rattle.numbers.proofs.Forms.{part-whole, bytes-join}
 use Rattle.numbers.proofs.Layouts.{length-join, join-cutAt}
 use Rattle.records.specs.Page.{hashSize}
-use Rattle.records.specs.Record.{stateSize, recordWidths, recordSize, fields, lengthField, versionField, stateBytes, summary, authenticator, recordOf, header, rightSize, rightVersion}
+use Rattle.records.specs.Record.{stateSize, recordWidths, recordSize, fields, lengthField, versionField, stateBytes, summary, authenticator, headerFields, recordOf, header, rightSize, rightVersion}
 use Rattle.records.proofs.Headers.{field-is}
 use Rattle.records.proofs.PageBytes.{cut-joined}
 
@@ -24,7 +24,7 @@ module _ (n v : ℕ) (st su au : List ℕ) (s : length st ≡ stateSize n) (u : 
   -- ---- reading what was written
 
   written : List (List ℕ)
-  written = bytesOf 2 (recordSize n - 2) ∷ bytesOf 1 v ∷ st ∷ su ∷ au ∷ []
+  written = headerFields n v ++ st ∷ su ∷ au ∷ []
 
   widths : map length written ≡ recordWidths n
   unfolding written
@@ -75,7 +75,7 @@ module _ (n v : ℕ) (st su au : List ℕ) (s : length st ≡ stateSize n) (u : 
 pub bytes-record : (n v : ℕ) (st su au : List ℕ) → Bytes st → Bytes su → Bytes au → Bytes (recordOf n v st su au)
 unfolding recordOf
 bytes-record n v st su au s u a =
-    bytes-join (bytesOf 2 (recordSize n - 2) ∷ bytesOf 1 v ∷ st ∷ su ∷ au ∷ []) (bytes-bytesOf 2 (recordSize n - 2), (bytes-bytesOf 1 v, (s, (u, (a, tt)))))
+    bytes-join (headerFields n v ++ st ∷ su ∷ au ∷ []) (bytes-bytesOf 2 (recordSize n - 2), (bytes-bytesOf 1 v, (s, (u, (a, tt)))))
 
 -- ---- writing what was read
 pub record-again : (n v : ℕ) (l : List ℕ) → Bytes l → rightSize n l ≡ true → rightVersion n v l ≡ true

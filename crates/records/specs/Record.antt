@@ -4,11 +4,11 @@
 use mathlib.Core.Path.{_≡_}
 use Prim.Native.Nat.{ℕ, _-_, _*_, _^_, _<_}
 use mathlib.Core.Bool.{Bool, _&&_}
-use mathlib.Core.List.{List, [], _∷_}
+use mathlib.Core.List.{List, [], _∷_, _++_}
 use lib.ListN.{length, getD}
 use lib.Dec.{eqb}
-use Rattle.numbers.specs.Numbers.{be, bytesOf}
-use Rattle.numbers.specs.Parts.{size, cutAt, join}
+use Rattle.numbers.specs.Numbers.{be}
+use Rattle.numbers.specs.Parts.{size, cutAt, fieldsOf, join}
 use Rattle.racks.specs.Racks.{State}
 use Rattle.racks.specs.Layout.{rackSize, stateOf}
 use Rattle.racks.specs.Rule.{goodState}
@@ -49,14 +49,17 @@ authenticator n l = getD (fields n l) 4 []
 abbrev pub state : ℕ → List ℕ → State
 state n l = stateOf n (stateBytes n l)
 
+-- the bytes of the first two fields: the length, and the version v
+abbrev pub headerFields : ℕ → ℕ → List (List ℕ)
+headerFields n v = fieldsOf (recordWidths n) ((recordSize n - 2) ∷ v ∷ [])
+
 -- a record from its fields
 unfoldable pub recordOf : ℕ → ℕ → List ℕ → List ℕ → List ℕ → List ℕ
-recordOf n v stateBytes summary authenticator =
-    join (bytesOf 2 (recordSize n - 2) ∷ bytesOf 1 v ∷ stateBytes ∷ summary ∷ authenticator ∷ [])
+recordOf n v stateBytes summary authenticator = join (headerFields n v ++ stateBytes ∷ summary ∷ authenticator ∷ [])
 
 -- the first three bytes of a record: its length and its version
 unfoldable pub header : ℕ → ℕ → List ℕ
-header n v = join (bytesOf 2 (recordSize n - 2) ∷ bytesOf 1 v ∷ [])
+header n v = join (headerFields n v)
 
 -- refusal 3 unless: the record is of its size, and its length field is right
 unfoldable pub rightSize : ℕ → List ℕ → Bool

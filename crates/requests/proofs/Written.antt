@@ -7,14 +7,13 @@ use mathlib.Core.List.{List, [], map}
 use lib.ListN.{length, getD}
 use borrow.Author.Tests.{le-leb, lt-ltb}
 use Rattle.numbers.specs.Numbers.{be, bytesOf, Bytes}
-use Rattle.numbers.specs.Parts.{size, cutAt, join}
-use Rattle.numbers.proofs.Numbers.{length-bytesOf, be-bytesOf}
-use Rattle.numbers.proofs.Bytes.{bytes-bytesOf}
+use Rattle.numbers.specs.Parts.{size, cutAt, fieldsOf, join}
+use Rattle.numbers.proofs.Numbers.{be-bytesOf}
 use Rattle.numbers.proofs.Layouts.{length-join, join-cutAt, cutAt-join}
-use Rattle.numbers.proofs.Forms.{part-whole, rewritten, rewritten-cutAt, bytes-join}
+use Rattle.numbers.proofs.Forms.{part-whole, widths-fieldsOf, fieldsOf-cutAt, bytes-fieldsOf, bytes-join}
 use Rattle.racks.specs.Rule.{amountLimit}
 use Rattle.requests.specs.declared.Reading.the-variants.{Formed}
-use Rattle.requests.specs.Layout.{requestWidths, requestSize, kind, rack, other, amount, fieldsOfRequest, bytesOfRequest}
+use Rattle.requests.specs.Layout.{requestWidths, requestSize, kind, rack, other, amount, numbersOfRequest, fieldsOfRequest, bytesOfRequest}
 use Rattle.requests.specs.Formed.{rightOther, rightAmount, wellFormed}
 use Rattle.requests.specs.Requests.{requestBy, requestOf, readRequest}
 use Rattle.requests.specs.Range.{InRange}
@@ -23,7 +22,7 @@ use Rattle.requests.proofs.Formed.{RightForm, form-right, fields}
 -- kind k, rack i, other o and amount a are written, and each is found again
 module _ (k i o a : ℕ) where
   widths : map length (fieldsOfRequest k i o a) ≡ requestWidths
-  widths = simp length-bytesOf
+  widths = widths-fieldsOf requestWidths (numbersOfRequest k i o a) refl
 
   pub length-written : length (bytesOfRequest k i o a) ≡ requestSize
   unfolding bytesOfRequest
@@ -31,7 +30,7 @@ module _ (k i o a : ℕ) where
 
   pub bytes-written : Bytes (bytesOfRequest k i o a)
   unfolding bytesOfRequest
-  bytes-written = bytes-join (fieldsOfRequest k i o a) (bytes-bytesOf _ _, (bytes-bytesOf _ _, (bytes-bytesOf _ _, (bytes-bytesOf _ _, (bytes-bytesOf _ _, (bytes-bytesOf _ _, tt))))))
+  bytes-written = bytes-join (fieldsOfRequest k i o a) (bytes-fieldsOf requestWidths (numbersOfRequest k i o a))
 
   cut : cutAt 0 requestWidths (bytesOfRequest k i o a) ≡ fieldsOfRequest k i o a
   unfolding bytesOfRequest
@@ -60,8 +59,8 @@ module _ (k i o a : ℕ) where
 pub rewritten-request : (l : List ℕ) → Bytes l → RightForm l → bytesOfRequest (kind l) (rack l) (other l) (amount l) ≡ l
 unfolding bytesOfRequest
 rewritten-request l bytes right =
-    let fields : fieldsOfRequest (kind l) (rack l) (other l) (amount l) ≡ rewritten 0 requestWidths l = cc in
-    ap join (fields ∙ rewritten-cutAt 0 requestWidths l bytes (omega arith)) ∙ join-cutAt 0 requestWidths l ∙ part-whole requestSize l (right .size)
+    let fields : fieldsOfRequest (kind l) (rack l) (other l) (amount l) ≡ fieldsOf requestWidths (map be (cutAt 0 requestWidths l)) = cc in
+    ap join (fields ∙ fieldsOf-cutAt 0 requestWidths l bytes (omega arith)) ∙ join-cutAt 0 requestWidths l ∙ part-whole requestSize l (right .size)
 
 -- what is written of a request in range is read back
 pub read-back : (n k i o a : ℕ) → i < 256 → o < 256 → 1 ≤ k → k ≤ 4 → (k ≤ 3 → o ≡ 0) → InRange n (requestBy k i o a)

@@ -3,8 +3,8 @@
 use Prim.Native.Nat.{ℕ, _-_}
 use mathlib.Core.List.{List, [], _∷_}
 use lib.ListN.{getD}
-use Rattle.numbers.specs.Numbers.{be, bytesOf}
-use Rattle.numbers.specs.Parts.{size, cutAt, join}
+use Rattle.numbers.specs.Numbers.{be}
+use Rattle.numbers.specs.Parts.{size, cutAt, fieldsOf, join}
 
 -- the widths of the fields, in their order: length, version, kind, rack, other, amount
 abbrev pub requestWidths : List ℕ
@@ -36,9 +36,12 @@ other l = field 4 l
 abbrev pub amount : List ℕ → ℕ
 amount l = field 5 l
 
--- the bytes of the fields of a request of version 1: kind k, rack i, other o and amount a
+-- the numbers of a request of version 1, in the order of its fields: kind k, rack i, other o and amount a; and the bytes of these fields
+abbrev pub numbersOfRequest : ℕ → ℕ → ℕ → ℕ → List ℕ
+numbersOfRequest k i o a = (requestSize - 2) ∷ 1 ∷ k ∷ i ∷ o ∷ a ∷ []
+
 abbrev pub fieldsOfRequest : ℕ → ℕ → ℕ → ℕ → List (List ℕ)
-fieldsOfRequest k i o a = bytesOf 2 (requestSize - 2) ∷ bytesOf 1 1 ∷ bytesOf 1 k ∷ bytesOf 1 i ∷ bytesOf 1 o ∷ bytesOf 4 a ∷ []
+fieldsOfRequest k i o a = fieldsOf requestWidths (numbersOfRequest k i o a)
 
 -- the bytes of such a request
 unfoldable pub bytesOfRequest : ℕ → ℕ → ℕ → ℕ → List ℕ

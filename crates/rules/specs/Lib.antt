@@ -4,4 +4,5 @@ pub mod Rules
 pub mod Ready
 pub mod Replay
 pub mod Sums
+pub mod Counted
 pub mod Table

@@ -1,6 +1,6 @@
 -- What the five calls of document 01 are defined over: a hash and a MAC, a page, a form of record, a form of request and a service.
--- The definitions of the calls, and all that is proved of histories, are over any design; `Edition` is the one that ships. A later
--- order's record of 64 racks, longer page or second form of request is another design. Assumes nothing.
+-- The definitions of the calls, and all that is proved of histories, are over any design; `Edition` is the one that ships. One run may
+-- cross forms of record, so that these are parts of one design and not designs of their own. Assumes nothing.
 use Prim.Native.Nat.{ℕ}
 use mathlib.Core.Bool.{Bool}
 use mathlib.Core.List.{List}

@@ -2,7 +2,7 @@
 -- 8; with the page of after it is the other way round; the record answered is that of the uncut call. The idea: both halves of 'exactly
 -- one' rest on this, that no request leads back to the summary that it starts from. Nothing is asked of authenticators. Assumes nothing.
 use mathlib.Core.Path.{_≡_, refl, sym, ap, _∙_}
-use mathlib.Core.Bool.{Bool, true}
+use mathlib.Core.Bool.{Bool, true, false}
 use Prim.Native.Nat.{ℕ, _≤_, _+_}
 use native.Mathlib.Omega.{arith}
 use mathlib.Core.List.{List, [], _∷_, _++_, List·Memᴰ, List·Memᴰ·head, Memᴰ·append-right}
@@ -32,9 +32,19 @@ use Rattle.histories.proofs.Verdicts.{Past, past-good, perform-past, pe
 use Rattle.histories.proofs.Inversions.{Taken, Led, Moved, stays, moves, moved-step}
 use Rattle.histories.proofs.Invariant.{neededIn}
 use Rattle.histories.proofs.Moments.{stands-at, needed-at}
-use Rattle.histories.proofs.Afternoon.{differ, judged-stale, stale-perform}
 
 -- ---- the two retries
+
+-- lists that differ are not the same
+differ : (a b : List ℕ) → (a ≡ b → ⊥) → same a b ≡ false
+differ a b h = by-test (same a b) refl
+  where
+    by-test : (t : Bool) → same a b ≡ t → same a b ≡ false
+    by-test true e = absurd (h (same-iff a b .0 e))
+    by-test false e = e
+
+judged-stale : {t : Tested} {valid current : Bool} (s : Served) → t ≡ Passed → valid ≡ true → current ≡ false → judged t valid current s ≡ stale
+judged-stale s tests seven eight = rw (tests, seven, eight) refl
 
 judged-good : {t : Tested} {valid current : Bool} {s : Served} (state : List ℕ) → t ≡ Passed → valid ≡ true → current ≡ true → s ≡ Served.carried state
     → judged t valid current s ≡ good state
@@ -88,7 +98,7 @@ module _ (D : Design) (laws : Laws D) (page l request answer state room : List �
       }
 
   by-repeat : ByRepeat D (performed D page l request answer) (D .withSummary page (nextSummary D (D .summary l) request)) l request room
-  unfolding repeated repeatVerdict
+  unfolding repeated repeatVerdict performed performVerdict
   by-repeat =
       let next = nextSummary D (D .summary l) request in
       let long = laws .length-hash (summaryMessage (D .summary l) request) in
@@ -103,7 +113,8 @@ module _ (D : Design) (laws : Laws D) (page l request answer state room : List �
         repeat = retried _ (ap (answeredBy D after l request room after) (judged-good state tests seven eight serves)
             ∙ ap {B = Performed} (λ tag. record { number = 0; stored = D .storedAfter state request; page = after; answer = over 0 (D .recordOf state next tag) room })
             (mac (binding D next state)));
-        perform = stale-perform D after l request room tests seven (differ (D .summary l) (D .pageSummary after) moved);
+        perform = ap (answeredBy D after l request room (D .withSummary after next))
+            (judged-stale (D .served (D .stateBytes l) request) tests seven (differ (D .summary l) (D .pageSummary after) moved));
       }
 
 -- ---- the page since the cut

@@ -19,14 +19,14 @@ use Rattle.histories.specs.Calls.{performs}
 use Rattle.histories.specs.Runs.{cutBefore, Run, Fresh, inRun}
 use Rattle.histories.specs.Laws.{Laws}
 use Rattle.histories.specs.Premises.{Premises, FewerPremises, HashPremise}
-use Rattle.histories.specs.Statements.{Replayed, NoSummaryReturns, OldRecordsAreTurnedAway}
+use Rattle.histories.specs.Statements.{Replayed, NoSummaryReturns, OldRecordsAreRefused}
 use Rattle.histories.specs.Duty.{Duty, DutyWithoutPerform}
 use Rattle.histories.specs.Ties.{DidByNumber, NumberLaws}
 use Rattle.histories.specs.Closed.{TrueRecord, TakenAreTrue, PerformedAreTrue, ViewedAreTrue, ResumedAreTrue, AnsweredAreTrue}
 use Rattle.histories.proofs.Moments.{condition-three}
 use Rattle.histories.proofs.Ties.{did-by-number}
 use Rattle.histories.proofs.ConditionThree.{performed-replayed, viewed-replayed, resumed-replayed, answered-replayed}
-use Rattle.histories.proofs.Afternoon.{no-summary-returns, old-records-turned-away}
+use Rattle.histories.proofs.Afternoon.{no-summary-returns, old-records-refused}
 use Rattle.histories.proofs.Duty.{duty, duty-without-perform}
 use Rattle.histories.proofs.Literal.{needed-hashed, fewer-hashes, fewer}
 use Rattle.histories.proofs.EditionLaws.{laws, number-laws}
@@ -99,8 +99,8 @@ module _ (fresh : List ℕ) (f : Fresh thisEdition fresh) (run : Run) (clear : H
   pub no-summary-of-the-page-returns : NoSummaryReturns thisEdition fresh run
   no-summary-of-the-page-returns = no-summary-returns thisEdition these-laws fresh f run (fewer-hashes thisEdition fresh run clear)
 
-  pub old-records-are-turned-away : OldRecordsAreTurnedAway thisEdition fresh run
-  old-records-are-turned-away = old-records-turned-away thisEdition these-laws fresh f run (fewer-hashes thisEdition fresh run clear)
+  pub old-records-are-refused : OldRecordsAreRefused thisEdition fresh run
+  old-records-are-refused = old-records-refused thisEdition these-laws fresh f run (fewer-hashes thisEdition fresh run clear) these-numbers
 
 module _ (fresh : List ℕ) (f : Fresh thisEdition fresh) (older : Run) (l request answer : List ℕ)
     (clear : HashPremise thisEdition fresh (cutBefore (performs l request answer) ∷ older)) where

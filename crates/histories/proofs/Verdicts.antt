@@ -56,12 +56,6 @@ good-judged Passed true false s state e = let z : _≡_ {A = ℕ} 0 1 = cc in ab
 good-judged Passed true true (Served.carried x) state e = cc
 good-judged Passed true true (Served.barred r) state e = let z : _≡_ {A = ℕ} 0 1 = cc in absurd (omega arith)
 
--- a record that is not current is not good, whatever else is found
-pub stale-judged : (t : Tested) (valid : Bool) (s : Served) → isGood (judged t valid false s) ≡ false
-stale-judged (Refused r) v s = refl
-stale-judged Passed false s = refl
-stale-judged Passed true s = refl
-
 -- a good verdict is past test 8
 pub past-good : (v : Verdict) (state : List ℕ) → v ≡ good state → past v ≡ true
 past-good v state e = rw e refl

@@ -1,17 +1,14 @@
 -- What is proved of every run under the premises: the third condition, and the afternoon itself. Each is a statement about the definitions
 -- that the contracts of the calls cite. A run's older part is what went before a moment in it.
 use mathlib.Core.Path.{_≡_}
-use mathlib.Core.Bool.{true}
-use Prim.Native.Nat.{ℕ, _<_}
+use Prim.Native.Nat.{ℕ, _<_, _≤_}
 use mathlib.Core.List.{List, _++_, List·Memᴰ, reverse}
 use Rattle.refusals.specs.declared.Refusal.the-variants.{Current}
 use Rattle.refusals.specs.Numbers.{numberOf}
-use Rattle.records.specs.declared.Tested.the-variants.{Passed}
 use Rattle.answers.specs.Design.{Design, Served}
-use Rattle.answers.specs.Hashing.{bindingIn, valid}
+use Rattle.answers.specs.Hashing.{bindingIn}
 use Rattle.answers.specs.Rows.{replayed}
-use Rattle.answers.specs.Judging.{offered, looked}
-use Rattle.answers.specs.Answers.{refusal, performed, viewed, Resumed, resumed}
+use Rattle.answers.specs.Answers.{performed, viewed, Resumed, resumed}
 use Rattle.histories.specs.Folds.{AtEach}
 use Rattle.histories.specs.Calls.{performs, views, resumes}
 use Rattle.histories.specs.Did.{recordMessages}
@@ -66,17 +63,21 @@ NoSummaryReturns D fresh run =
     → D .pageSummary (pageAfter D fresh run) ≡ D .pageSummary (pageAfter D fresh older)
     → movedBefore D fresh run ≡ movedBefore D fresh older
 
--- a record for the summary of an earlier moment, since which the page has moved on: perform and view give 8 if no test before it
--- refuses the record, and resume does not hand it back, from RAM or from disk
-pub record TurnedAway (D : Design) (page l : List ℕ) : Type 0 where
-  pub perform : (request answer : List ℕ) → offered D page l request answer ≡ Passed → valid D page l ≡ true
-      → performed D page l request answer ≡ refusal (numberOf Current) page answer
-  pub view : (rack : ℕ) → looked D page l rack ≡ Passed → valid D page l ≡ true → viewed D page l rack .number ≡ numberOf Current
+-- a refusal by test 8 or one before it
+pub record UpToEight (number : ℕ) : Type 0 where
+  pub refused : 0 < number
+  pub before : number ≤ numberOf Current
+
+-- a record for the summary of an earlier moment, since which the page has moved on: perform and view refuse it, with 8 if no test before
+-- it applies, and resume does not hand it back, from RAM or from disk
+pub record RefusedAsOld (D : Design) (page l : List ℕ) : Type 0 where
+  pub perform : (request answer : List ℕ) → UpToEight (performed D page l request answer .number)
+  pub view : (rack : ℕ) → UpToEight (viewed D page l rack .number)
   pub inRam : (onDisk : List ℕ) → resumed D page l onDisk ≡ Resumed.ram → ⊥
   pub onDisk : (inRam : List ℕ) → resumed D page inRam l ≡ Resumed.disk → ⊥
 
-abbrev pub OldRecordsAreTurnedAway : Design → List ℕ → Run → Type 0
-OldRecordsAreTurnedAway D fresh run =
+abbrev pub OldRecordsAreRefused : Design → List ℕ → Run → Type 0
+OldRecordsAreRefused D fresh run =
     (newer older : Run) → run ≡ newer ++ older → (movedBefore D fresh run ≡ movedBefore D fresh older → ⊥)
     → (l : List ℕ) → D .summary l ≡ D .pageSummary (pageAfter D fresh older)
-    → TurnedAway D (pageAfter D fresh run) l
+    → RefusedAsOld D (pageAfter D fresh run) l

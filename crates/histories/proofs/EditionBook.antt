@@ -14,7 +14,7 @@ use Rattle.racks.specs.Rule.{goodState}
 use Rattle.racks.proofs.StateBytes.{stateOf-bytesOfState}
 use Rattle.racks.proofs.StateRule.{fits-at}
 use Rattle.racks.proofs.FirstState.{length-firstState, good-firstState}
-use Rattle.rules.specs.Replay.{Booked, book, andThen, replay}
+use Rattle.rules.specs.Replay.{Booked, book, thenBook, replay}
 use Rattle.rules.proofs.Replays.{kept-book}
 use Rattle.answers.specs.Design.{Served}
 use Rattle.answers.specs.Rows.{servedAlong, replayed}
@@ -48,7 +48,7 @@ books-more n v s request row bytes (Booked.booked t) is racks good e rest =
     let b = rest t (k .racks ∙ racks) (k .good) e in
     record {
       state = b .state;
-      replays = ap (andThen (λ u. replay n u row)) is ∙ b .replays;
+      replays = ap (thenBook (λ u. replay n u row)) is ∙ b .replays;
       written = b .written;
       racks = b .racks;
       good = b .good;

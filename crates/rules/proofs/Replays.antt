@@ -19,7 +19,7 @@ use Rattle.requests.proofs.Formed.{in-range}
 use Rattle.rules.specs.declared.Verdict.{Verdict}
 use Rattle.rules.specs.declared.Verdict.the-variants.{Free, Barred}
 use Rattle.rules.specs.Rules.{verdict, carryOut}
-use Rattle.rules.specs.Replay.{Booked, booked, refused, byVerdict, byReading, book, andThen, replay}
+use Rattle.rules.specs.Replay.{Booked, booked, refused, byVerdict, byReading, book, thenBook, replay}
 use Rattle.rules.specs.Sums.{ofReading, sumOf, sumCharged, sumDischarged}
 use Rattle.rules.proofs.Kept.{Kept, kept-none, kept-then, kept-carryOut}
 
@@ -54,7 +54,7 @@ book-is n s l read = rw read
 -- ---- a row of requests
 
 -- a row goes on with what one more request gives
-after : (n : ℕ) (s : State) (l : List ℕ) (f : State → Booked) (b : Booked) → book n s l ≡ b → (t : State) → andThen f b ≡ booked t
+after : (n : ℕ) (s : State) (l : List ℕ) (f : State → Booked) (b : Booked) → book n s l ≡ b → (t : State) → thenBook f b ≡ booked t
     → (P : Type 0) → ((u : State) → book n s l ≡ booked u → f u ≡ booked t → P) → P
 after n s l f (booked u) e t all P go = go u e all
 after n s l f (refused r) e t all P go = let z : _≡_ {A = ℕ} 0 1 = cc in absurd (omega arith)
@@ -88,19 +88,19 @@ total-replay n t ls e =
 -- ---- two rows
 
 -- what is booked goes on in two ways that agree
-alike : (f g : State → Booked) (b : Booked) → ((s : State) → f s ≡ g s) → andThen f b ≡ andThen g b
+alike : (f g : State → Booked) (b : Booked) → ((s : State) → f s ≡ g s) → thenBook f b ≡ thenBook g b
 alike f g (booked s) same = same s
 alike f g (refused r) same = refl
 
 -- twice one after the other
-nested : (f g : State → Booked) (b : Booked) → andThen (λ t. andThen g (f t)) b ≡ andThen g (andThen f b)
+nested : (f g : State → Booked) (b : Booked) → thenBook (λ t. thenBook g (f t)) b ≡ thenBook g (thenBook f b)
 nested f g (booked s) = refl
 nested f g (refused r) = refl
 
 -- a replay of two rows is the replay of the second from what the first gives
-pub replay-append : (n : ℕ) (s : State) (ls ms : List (List ℕ)) → replay n s (ls ++ ms) ≡ andThen (λ t. replay n t ms) (replay n s ls)
+pub replay-append : (n : ℕ) (s : State) (ls ms : List (List ℕ)) → replay n s (ls ++ ms) ≡ thenBook (λ t. replay n t ms) (replay n s ls)
 unfolding replay
 replay-append n s [] ms = refl
 replay-append n s (l ∷ ls) ms =
-    alike (λ t. replay n t (ls ++ ms)) (λ t. andThen (λ u. replay n u ms) (replay n t ls)) (book n s l) (λ t. replay-append n t ls ms)
+    alike (λ t. replay n t (ls ++ ms)) (λ t. thenBook (λ u. replay n u ms) (replay n t ls)) (book n s l) (λ t. replay-append n t ls ms)
     ∙ nested (λ t. replay n t ls) (λ t. replay n t ms) (book n s l)

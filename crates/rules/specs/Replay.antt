@@ -32,10 +32,10 @@ book n s l = byReading s (readRequest n l)
 
 -- requests in order: the first refusal ends it
 
-abbrev pub andThen : (State → Booked) → Booked → Booked
-andThen next (booked s) = next s
-andThen next (refused r) = refused r
+abbrev pub thenBook : (State → Booked) → Booked → Booked
+thenBook next (booked s) = next s
+thenBook next (refused r) = refused r
 
 unfoldable pub replay : ℕ → State → List (List ℕ) → Booked
 replay n s [] = booked s
-replay n s (l ∷ ls) = andThen (λ t. replay n t ls) (book n s l)
+replay n s (l ∷ ls) = thenBook (λ t. replay n t ls) (book n s l)

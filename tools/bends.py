@@ -39,7 +39,7 @@ def clauses(text):
 
 def fields(text):
     """Each list of each record: emptied, or given an entry."""
-    for m in re.finditer(r"^(nothing|hashes|finds|relies|takes|answers|both) [^\n]*=\n?((?:.*\n)*?)(?=\n|\Z)", text, re.M):
+    for m in re.finditer(r"^(nothing|hashes|finds|relies|takes|answers|both) [^\n]*? =\s((?:.*\n)*?)(?=\n|\Z)", text, re.M):
         for field in FIELDS:
             f = re.search(rf"\b{field} = (.*?)(?=;| }})", m[2])
             entry = ENTRY.get(m[1], "l")
@@ -82,7 +82,7 @@ def main():
                     file.write(text[:start] + other + text[end:])
                 run = subprocess.run(["rt", "dev", "histories"], cwd=copy, capture_output=True, text=True, check=False)
                 laws = re.findall(r"(?:error: |antt:[0-9:]+ )`([\w-]+)`", run.stdout + run.stderr)
-                steps = [law for law in laws if law.startswith("step-") or law in ("barred-repeat", "cuts-count", "requests-are")]
+                steps = [law for law in laws if re.fullmatch(r"step-\d+|barred-repeat|cuts-count|requests-are", law)]
                 tried += 1
                 unnoticed += not laws
                 said = f"{laws[0]}; witness: {', '.join(steps) or 'none'}" if laws else "UNNOTICED"

@@ -1,6 +1,6 @@
 -- A run written out, step by step. The premises and the theorems read what the calls of a run hashed, found valid, relied on, took, answered
 -- and moved by a definition (`did`) that no theorem can hold to the truth: with an entry left out a theorem stays true and says less. Here
--- is one run of 30 steps, with cuts, refusals and accepted calls, and what each step did, spelled out and computed to be so; the page that
+-- is one run of 31 steps, with cuts, refusals and accepted calls, and what each step did, spelled out and computed to be so; the page that
 -- a step finds is written beside it. Assumes nothing.
 use mathlib.Core.Path.{_≡_, refl}
 use mathlib.Core.Bool.{Bool, true, false, cond, _&&_}
@@ -306,6 +306,13 @@ pub step-30 : Stepped page-acdb (whole (views record-acdb 0)) 0 page-acdb
 unfolding computing
 step-30 = refl
 
+-- 31. resume with it in RAM, and the one before it on disk: the RAM one
+pub step-31 : Stepped page-acdb (whole (resumes record-acdb record-acd)) 1 page-acdb
+    (has hashed of-acdb ∷ has found (record-acdb ∷ []) ∷ has taken (record-acdb ∷ []) ∷ has needed of-acdb
+    ∷ has relied (record-acdb ∷ []) ∷ [])
+unfolding computing
+step-31 = refl
+
 -- ---- a repeat that is refused behind test 8
 
 -- its record has the right authenticator for a state that no request gave, so no run that meets the premises has such a repeat; what it does
@@ -323,7 +330,8 @@ barred-repeat = refl
 
 abbrev pub run : Run
 run =
-    whole (views record-acdb 0)
+    whole (resumes record-acdb record-acd)
+    ∷ whole (views record-acdb 0)
     ∷ whole (performs record-acd b room)
     ∷ whole (repeats record-acd b room)
     ∷ cutBefore (performs record-acd b room)

@@ -17,8 +17,8 @@ pages [] = []
 pages (s ∷ older) = pageAfter toy fresh (s ∷ older) ∷ pages older
 
 pub pages-are : pages run ≡
-    -- 30 to 29
-    page-acdb ∷ page-acdb
+    -- 31 to 29
+    page-acdb ∷ page-acdb ∷ page-acdb
     -- 28 to 10
     ∷ page-acd ∷ page-acd ∷ page-acd ∷ page-acd ∷ page-acd ∷ page-acd ∷ page-acd ∷ page-acd ∷ page-acd ∷ page-acd ∷ page-acd ∷ page-acd ∷ page-acd ∷ page-acd ∷ page-acd ∷ page-acd ∷ page-acd ∷ page-acd ∷ page-acd
     -- 9 to 7
@@ -62,8 +62,10 @@ abbrev agree : List (List ℕ) → List ℕ → Held
 agree requests state = record { requests = requests; gives = Served.carried state; holds = state }
 
 pub held-are : held run ≡
-    -- 30
+    -- 31
     agree (a ∷ c ∷ d ∷ b ∷ []) state-acdb
+    -- 30
+    ∷ agree (a ∷ c ∷ d ∷ b ∷ []) state-acdb
     -- 29
     ∷ agree (a ∷ c ∷ d ∷ []) state-acd
     -- 27

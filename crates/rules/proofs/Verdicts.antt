@@ -48,7 +48,7 @@ pub free-discharge : (s : State) (i a : ℕ) → verdict s (Discharge i a) ≡ F
 unfolding overStored overLimit
 free-discharge s i a free =
     let t = clear s (Discharge i a) free in
-    record { held = ltb-false _ _ (t .1); flow = ltb-false _ _ (t .2) }
+    record { held = ltb-false (rackAt s i .stored) a (t .1); flow = ltb-false _ _ (t .2) }
 
 -- of a move's racks the one can give it out and the other take it in
 pub free-move : (s : State) (i o a : ℕ) → verdict s (Move i o a) ≡ Free → GivesOut a (rackAt s i) × TakesIn (arrives (Move i o a)) (rackAt s o)
@@ -56,4 +56,4 @@ unfolding overCapacity overStored overLimit
 free-move s i o a free =
     let t = clear s (Move i o a) free in
     let flows = neither _ _ (t .2) in
-    (record { held = ltb-false _ _ (t .1); flow = ltb-false _ _ (flows .1) }, record { room = ltb-false _ _ (t .0); flow = ltb-false _ _ (flows .0) })
+    (record { held = ltb-false (rackAt s i .stored) a (t .1); flow = ltb-false _ _ (flows .1) }, record { room = ltb-false _ _ (t .0); flow = ltb-false _ _ (flows .0) })

@@ -2,7 +2,7 @@
 -- cite. A rack is (capacity, stored, taken in, given out). It stands as rack 3 of a book, and a request for it is given as bytes.
 -- Assumes nothing.
 use mathlib.Core.Path.{_≡_, refl}
-use mathlib.Core.Bool.{Bool, true, false, _&&_}
+use mathlib.Core.Bool.{Bool, true, false, _&&_, cond}
 use Prim.Native.Nat.{ℕ}
 use mathlib.Core.List.{List, [], _∷_}
 use lib.Dec.{eqb}
@@ -77,44 +77,44 @@ first = rackBy 72000 70000 70000 0
 abbrev last : Rack
 last = rackBy 10 0 999999999999999 999999999999999
 
-abbrev table : List Bool
+abbrev table : List (ℕ × Bool)
 table =
     -- K1. Charge of 3,600 to rack 3 is 00 08 01 02 03 00 00 00 0E 10.
-    same (bytesOfRequest 2 3 0 3600) (0x00 ∷ 0x08 ∷ 0x01 ∷ 0x02 ∷ 0x03 ∷ 0x00 ∷ 0x00 ∷ 0x00 ∷ 0x0E ∷ 0x10 ∷ [])
-    ∷ chargeOf 3 3600 (readRequest racks (bytesOfRequest 2 3 0 3600))
+    (1, same (bytesOfRequest 2 3 0 3600) (0x00 ∷ 0x08 ∷ 0x01 ∷ 0x02 ∷ 0x03 ∷ 0x00 ∷ 0x00 ∷ 0x00 ∷ 0x0E ∷ 0x10 ∷ []))
+    ∷ (1, chargeOf 3 3600 (readRequest racks (bytesOfRequest 2 3 0 3600)))
     -- K2. (72000, 70000, 70000, 0) charge 2,000: (72000, 72000, 72000, 0).
-    ∷ becomes first 2 2000 (rackBy 72000 72000 72000 0)
+    ∷ (2, becomes first 2 2000 (rackBy 72000 72000 72000 0))
     -- K3. The same rack, charge 2,001: 9.
-    ∷ refuses first 2 2001 9
+    ∷ (3, refuses first 2 2001 9)
     -- K4. The same rack, discharge 70,000: (72000, 0, 70000, 70000).
-    ∷ becomes first 3 70000 (rackBy 72000 0 70000 70000)
+    ∷ (4, becomes first 3 70000 (rackBy 72000 0 70000 70000))
     -- K5. The same rack, discharge 70,001: 10.
-    ∷ refuses first 3 70001 10
+    ∷ (5, refuses first 3 70001 10)
     -- K6. The same rack, capacity 70,000: accepted.
-    ∷ becomes first 1 70000 (rackBy 70000 70000 70000 0)
+    ∷ (6, becomes first 1 70000 (rackBy 70000 70000 70000 0))
     -- K7. Capacity 69,999: 9.
-    ∷ refuses first 1 69999 9
+    ∷ (7, refuses first 1 69999 9)
     -- K8. Percent of 719 in 72,000 is 0.
-    ∷ eqb (percent (rackBy 72000 719 719 0)) 0
+    ∷ (8, eqb (percent (rackBy 72000 719 719 0)) 0)
     -- K9. Of 720 it is 1.
-    ∷ eqb (percent (rackBy 72000 720 720 0)) 1
+    ∷ (9, eqb (percent (rackBy 72000 720 720 0)) 1)
     -- K10. Of 70,000 it is 97.
-    ∷ eqb (percent first) 97
+    ∷ (10, eqb (percent first) 97)
     -- K11. Capacity 100,000,000 is well formed.
-    ∷ wellFormed racks (bytesOfRequest 1 3 0 100_000_000)
+    ∷ (11, wellFormed racks (bytesOfRequest 1 3 0 100_000_000))
     -- K12. 100,000,001: 6.
-    ∷ refuses first 1 100_000_001 6
+    ∷ (12, refuses first 1 100_000_001 6)
     -- K13. (10, 0, 999999999999999, 999999999999999) charge 1: accepted.
-    ∷ becomes last 2 1 (rackBy 10 1 1_000_000_000_000_000 999999999999999)
+    ∷ (13, becomes last 2 1 (rackBy 10 1 1_000_000_000_000_000 999999999999999))
     -- K14. Charge 2: 11.
-    ∷ refuses last 2 2 11
+    ∷ (14, refuses last 2 2 11)
     ∷ []
 
--- every case holds
-abbrev allHold : List Bool → Bool
-allHold [] = true
-allHold (b ∷ bs) = b && allHold bs
+-- the numbers of the cases that do not hold; by them a wrong cell is named
+abbrev failing : List (ℕ × Bool) → List ℕ
+failing [] = []
+failing ((k, b) ∷ cs) = cond b (failing cs) (k ∷ failing cs)
 
-pub acceptance : allHold table ≡ true
+pub acceptance : failing table ≡ []
 unfolding beFrom be bytesOf part same firstState percent bytesOfRequest rightForm rightOther rightAmount wellFormed requestBy requestOf readRequest overCapacity overStored overLimit verdict carryOut book
 acceptance = refl

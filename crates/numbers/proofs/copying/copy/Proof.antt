@@ -10,13 +10,13 @@ use Rattle.numbers.proofs.copying.copy.Statement.{statement}
 use Rattle.numbers.proofs.copying.copy.Tie as tie
 
 abbrev Inv-loop : tie.InvT-loop
-Inv-loop d₀ at s i₀ d i = (i ≤ length s) × (length d ≡ length d₀) × (d ≡ paste d₀ at s i)
+Inv-loop d₀ at s i₀ d i = (d ≡ paste d₀ at s i) × (i ≤ length s) × (length d ≡ length d₀)
 
 abbrev μ-loop : tie.MeasureT-loop
 μ-loop d₀ at s i₀ d i = length s - i
 
 loop-holds : tie.Need-loop-holds Inv-loop μ-loop
-loop-holds c = (omega arith, refl, paste-zero (c .args .d .now) (c .args .at) (c .args .s .now))
+loop-holds c = (paste-zero (c .args .d .now) (c .args .at) (c .args .s .now), omega arith, refl)
 
 shared-slice-read-d : tie.Need-shared-slice-read-d Inv-loop μ-loop
 shared-slice-read-d c = omega arith
@@ -38,17 +38,17 @@ loop-again c =
     let a = c .before .before .before .args in
     let l = c .before .before .loop in
     let more = paste-suc (a .d .now) (a .at) (a .s .now) (l .i) 0 (omega arith) (c .before .loop-test .taken) in
-    (omega arith, simp length-set (l .inv .1), rw (l .inv .2, add-one) more)
+    (rw (l .inv .0, add-one) more, omega arith, simp length-set (l .inv .2))
 
 same-length : tie.Need-same-length Inv-loop μ-loop
-same-length c = c .before .loop .inv .1
+same-length c = c .before .loop .inv .2
 
 returns : tie.Need-returns Inv-loop μ-loop
 unfolding over
 returns c =
     let a = c .before .before .args in
     let all : c .before .loop .i ≡ length (a .s .now) = omega arith in
-    rw (c .before .loop .inv .2, all, take-length)
+    rw (c .before .loop .inv .0, all, take-length)
 
 pub copy-spec : {M : Type 1} → statement M
 copy-spec =

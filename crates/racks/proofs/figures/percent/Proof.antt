@@ -1,7 +1,10 @@
 -- `percent` meets its contract: by the rule the quotient is at most 100, so that it fits. Assumes nothing.
 use borrow.Author.Needs.{needs}
 use mathlib.Core.Path.{sym}
+use Prim.Native.Nat.{_*_, _/_}
 use native.Mathlib.Omega.{arith}
+use mir.Syntax.{w32}
+use mir.Val.{Fits}
 use Rattle.racks.proofs.StateRule.{good-iff}
 use Rattle.racks.proofs.Percents.{percent-none, percent-some, hundred}
 use Rattle.racks.proofs.figures.percent.Statement.{statement}
@@ -14,7 +17,9 @@ cast-result-3 : tie.Need-cast-result-3
 cast-result-3 c =
     let start = c .before .before .before .before in
     let r = start .args .r in
-    omega (arith, hundred (r .stored) (r .capacity) (good-iff r .0 (start .pre) .room))
+    let fits : Fits w32 (100 * r .stored / r .capacity) =
+    omega (arith, hundred (r .stored) (r .capacity) (good-iff r .0 (start .pre) .room)) in
+    fits
 
 returns-2 : tie.Need-returns-2
 returns-2 c = sym (percent-some (c .before .before .before .before .args .r) (c .before .before .if1 .left))

@@ -13,7 +13,7 @@ use Rattle.racks.proofs.rule.good_state.Statement.{statement}
 use Rattle.racks.proofs.rule.good_state.Tie as tie
 
 abbrev Inv-loop : tie.InvT-loop
-Inv-loop s n i₀ i = (i ≤ n) × (goodState (drop i (stateOf n s)) ≡ goodState (stateOf n s))
+Inv-loop s n i₀ i = (goodState (drop i (stateOf n s)) ≡ goodState (stateOf n s)) × (i ≤ n)
 
 abbrev μ-loop : tie.MeasureT-loop
 μ-loop s n i₀ i = n - i
@@ -28,22 +28,22 @@ turn c =
     let s = c .before .before .before .before .before .args .s .now in
     let l = c .before .before .before .loop in
     rw (c .good-rack .ensures, c .before .read-rack .ensures)
-    (rw (drop-stateOf (length s / rackSize) s (l .i) (c .before .before .loop-test .taken)) at (l .inv .1))
+    (rw (drop-stateOf (length s / rackSize) s (l .i) (c .before .before .loop-test .taken)) at (l .inv .0))
 
 loop-holds : tie.Need-loop-holds Inv-loop μ-loop
-loop-holds c = (omega arith, refl)
+loop-holds c = (refl, omega arith)
 
 returns : tie.Need-returns Inv-loop μ-loop
 returns c = rw (not-true (c .before .good-rack .result) (c .if1 .taken)) at (turn (c .before))
 
 loop-again : tie.Need-loop-again Inv-loop μ-loop
-loop-again c = (omega arith, rw (not-false (c .before .good-rack .result) (c .if1 .left)) at (turn (c .before)))
+loop-again c = (rw (not-false (c .before .good-rack .result) (c .if1 .left)) at (turn (c .before)), omega arith)
 
 returns-2 : tie.Need-returns-2 Inv-loop μ-loop
 unfolding goodState
 returns-2 c =
     let s = c .before .before .before .args .s .now in
-    rw (drop-stateOf-end (length s / rackSize) s (c .before .loop .i) (c .loop-test .left)) at (c .before .loop .inv .1)
+    rw (drop-stateOf-end (length s / rackSize) s (c .before .loop .i) (c .loop-test .left)) at (c .before .loop .inv .0)
 
 pub good-state-spec : {M : Type 1} → statement M
 good-state-spec =

@@ -1,5 +1,6 @@
 -- Test 3: a record of the size, whose first two bytes are the header's, has the right length field. Assumes nothing.
 use Rattle.numbers.specs.Parts.{part}
+use Rattle.numbers.specs.Comparing.{same}
 use Rattle.records.specs.Record.{recordSize}
 use lib.ListN.{length}
 use native.Mathlib.Omega.{arith}
@@ -25,7 +26,8 @@ returns-2 c =
     let o = c .before .before .before .before .before .before in
     let s = o .args in
     let long : length (s .«record» .now) ≡ recordSize (s .racks) = omega arith in
-    c .same .ensures ∙ size-right (s .racks) (s .«record» .now) (s .header .now) (o .pre) long (λ i. c .before .before .before .before .before .shared-slice-known .given i .fits)
+    let compared : c .same .result ≡ same (part 0 2 (s .«record» .now)) (part 0 2 (s .header .now)) = c .same .ensures in
+    compared ∙ size-right (s .racks) (s .«record» .now) (s .header .now) (o .pre) long (λ i. c .before .before .before .before .before .shared-slice-known .given i .fits)
 
 pub right-size-spec : {M : Type 1} → statement M
 right-size-spec =

@@ -1,17 +1,23 @@
 -- `right_form` meets its contract: its tests are those of the definition, in their order. Assumes nothing.
-use mathlib.Core.Path.{refl, sym}
+use mathlib.Core.Path.{_≡_, refl, sym}
+use Prim.Native.Nat.{_-_}
+use lib.ListN.{length}
 use borrow.Author.Tests.{eq-eqb, ne-eqb}
+use Rattle.requests.specs.Layout.{requestSize}
 use Rattle.requests.proofs.Tests.{form-is}
 use borrow.Author.Needs.{needs}
 use Rattle.requests.proofs.form.right_form.Statement.{statement}
 use Rattle.requests.proofs.form.right_form.Tie as tie
 
 returns : tie.Need-returns
-returns c = sym (form-is _ refl refl (ne-eqb _ _ (c .if1 .taken)) refl refl)
+returns c =
+    let sized : length (c .before .before .args .s .now) ≡ requestSize → ⊥ = c .if1 .taken in
+    sym (form-is _ refl refl (ne-eqb _ _ sized) refl refl)
 
 returns-2 : tie.Need-returns-2
 returns-2 c =
-    sym (form-is _ (c .before .read16 .ensures) refl (eq-eqb _ _ (c .before .before .if1 .left)) (ne-eqb _ _ (c .if2 .taken)) refl)
+    let counted : c .before .read16 .result ≡ requestSize - 2 → ⊥ = c .if2 .taken in
+    sym (form-is _ (c .before .read16 .ensures) refl (eq-eqb _ _ (c .before .before .if1 .left)) (ne-eqb _ _ counted) refl)
 
 returns-3 : tie.Need-returns-3
 returns-3 c =

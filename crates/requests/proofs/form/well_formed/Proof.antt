@@ -2,6 +2,7 @@
 -- the fields are there to be read. Assumes nothing.
 use mathlib.Core.Path.{_≡_, refl, sym}
 use mathlib.Core.Bool.{Bool, true, _&&_}
+use Prim.Native.Nat.{_<_}
 use lib.ListN.{length}
 use borrow.Author.Tests.{le-leb, lt-leb, le-ltb, lt-ltb}
 use native.Mathlib.Omega.{arith}
@@ -33,13 +34,15 @@ byte-requires-2 c κs = omega (arith, size (c .before))
 returns-2 : tie.Need-returns-2
 returns-2 c =
     let o = c .before in
-    sym (formed-is _ _ (o .before .byte .ensures) (o .byte2 .ensures) (form (o .before .before)) (lt-leb _ _ (c .if2 .taken)) refl refl refl refl)
+    let under : o .before .byte .result < 1 = c .if2 .taken in
+    sym (formed-is _ _ (o .before .byte .ensures) (o .byte2 .ensures) (form (o .before .before)) (lt-leb _ _ under) refl refl refl refl)
 
 returns-3 : tie.Need-returns-3
 returns-3 c =
     let o = c .before .before in
+    let over : 4 < o .before .byte .result = c .if3 .taken in
     sym (formed-is _ _ (o .before .byte .ensures) (o .byte2 .ensures) (form (o .before .before)) (le-leb _ _ (c .before .if2 .left))
-    (lt-leb _ _ (c .if3 .taken)) refl refl refl)
+    (lt-leb _ _ over) refl refl refl)
 
 returns-4 : tie.Need-returns-4
 returns-4 c =

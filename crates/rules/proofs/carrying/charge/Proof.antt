@@ -1,7 +1,9 @@
 -- `charge` meets its contract: the rack is read, changed and put back, and what the rules allow keeps the sums in their types.
 -- Assumes nothing.
-use Prim.Native.Nat.{_^_, _<_}
+use Prim.Native.Nat.{_+_, _^_, _<_}
 use native.Mathlib.Omega.{arith}
+use mir.Syntax.{w64}
+use mir.Val.{Fits}
 use Rattle.rules.specs.Ready.{TakesIn}
 use borrow.Author.Needs.{needs}
 use Rattle.rules.proofs.carrying.charge.Statement.{statement}
@@ -15,7 +17,11 @@ add-t9 : tie.Need-add-t9
 add-t9 c = let t = takes (c .before .before) in omega arith
 
 add-t11 : tie.Need-add-t11
-add-t11 c = let t = takes (c .before .before .before) in omega arith
+add-t11 c =
+    let o = c .before .before .before in
+    let t = takes o in
+    let fits : Fits w64 (o .rack-at .result .taken + o .before .before .before .args .amount) = omega arith in
+    fits
 
 returns : tie.Need-returns
 returns c =

@@ -1,5 +1,6 @@
 -- `on_capacity` meets its contract: 9 is its only test. Assumes nothing.
 use mathlib.Core.Path.{refl}
+use Prim.Native.Nat.{_<_}
 use borrow.Author.Tests.{lt-ltb, le-ltb}
 use Rattle.rules.specs.Rules.{overCapacity, overStored, overLimit}
 use Rattle.rules.proofs.Tests.{verdict-is}
@@ -8,7 +9,10 @@ use Rattle.rules.proofs.judging.on_capacity.Tie as tie
 
 returns : tie.Need-returns
 unfolding overCapacity
-returns c = verdict-is _ _ (lt-ltb _ _ (c .if1 .taken)) refl refl
+returns c =
+    let s = c .before .before .args in
+    let under : s .amount < s .r .stored = c .if1 .taken in
+    verdict-is _ _ (lt-ltb _ _ under) refl refl
 
 returns-2 : tie.Need-returns-2
 unfolding overCapacity overStored overLimit

@@ -1,5 +1,8 @@
 -- `on_charge` meets its contract: its tests are 9 and 11, in this order. Assumes nothing.
-use mathlib.Core.Path.{refl, sym, _∙_}
+use mathlib.Core.Path.{_≡_, refl, sym, _∙_}
+use Prim.Native.Nat.{_+_}
+use lib.Dec.{ltb}
+use Rattle.racks.specs.Rule.{flowLimit}
 use Rattle.rules.specs.Rules.{overCapacity, overStored, overLimit}
 use Rattle.rules.proofs.Tests.{verdict-is}
 use borrow.Author.Needs.{needs}
@@ -14,7 +17,9 @@ returns-2 : tie.Need-returns-2
 unfolding overCapacity overStored overLimit
 returns-2 c =
     let nine = c .before .before in
-    verdict-is _ _ (sym (nine .before .passes .ensures) ∙ nine .if1 .left) refl (sym (c .before .passes2 .ensures) ∙ c .if2 .taken)
+    let s = nine .before .before .before .before .args in
+    let tested : c .before .passes2 .result ≡ ltb flowLimit (s .r .taken + s .amount) = c .before .passes2 .ensures in
+    verdict-is _ _ (sym (nine .before .passes .ensures) ∙ nine .if1 .left) refl (sym tested ∙ c .if2 .taken)
 
 returns-3 : tie.Need-returns-3
 unfolding overCapacity overStored overLimit

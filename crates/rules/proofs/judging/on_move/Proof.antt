@@ -17,7 +17,10 @@ use Rattle.rules.proofs.judging.on_move.Tie as tie
 
 returns : tie.Need-returns
 unfolding overCapacity
-returns c = verdict-is _ _ (sym (c .before .passes .ensures) ∙ c .if1 .taken) refl refl
+returns c =
+    let s = c .before .before .before .before .args in
+    let tested : c .before .passes .result ≡ ltb (s .o .capacity) (s .o .stored + s .amount) = c .before .passes .ensures in
+    verdict-is _ _ (sym tested ∙ c .if1 .taken) refl refl
 
 returns-2 : tie.Need-returns-2
 unfolding overCapacity overStored
@@ -37,7 +40,10 @@ eleven c taken given =
     verdict-is _ _ (sym (nine .before .passes .ensures) ∙ nine .if1 .left) (le-ltb _ _ (c .if2 .left)) (limit-is _ 0 1 _ taken given)
 
 returns-3 : tie.Need-returns-3
-returns-3 c = eleven (c .before .before) (sym (c .before .passes2 .ensures) ∙ c .if3 .taken) refl
+returns-3 c =
+    let s = start (c .before .before) .args in
+    let tested : c .before .passes2 .result ≡ ltb flowLimit (s .o .taken + s .amount) = c .before .passes2 .ensures in
+    eleven (c .before .before) (sym tested ∙ c .if3 .taken) refl
 
 returns-4 : tie.Need-returns-4
 returns-4 c =

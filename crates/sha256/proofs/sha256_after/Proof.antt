@@ -5,7 +5,8 @@ use mathlib.Core.Path.{_≡_, ap, _∙_}
 use mathlib.Core.List.{List, _++_}
 use lib.ListN.{length, length-append}
 use Prim.Native.Nat.{ℕ, _+_, _*_, _/_}
-use Rattle.sha256.specs.Computation.{digest}
+use Rattle.sha256.specs.Padding.{padding}
+use Rattle.sha256.specs.Computation.{hashes, digest}
 use native.Mathlib.Omega.{arith}
 use borrow.Author.Needs.{needs}
 use Rattle.sha256.proofs.sha256_after.Statement.{statement}
@@ -26,8 +27,9 @@ returns c =
     let n = length (s .a .now) + length (s .b .now) + length (s .c .now) in
     let m = s .a .now ++ s .b .now ++ s .c .now in
     let three : length m ≡ n = simp length-append in
+    let value : c .before .hash-blocks .result ≡ hashes (s .h) (m ++ padding (64 * s .done + n)) ((n + 72) / 64) = c .before .hash-blocks .ensures in
     c .digest .ensures
-    ∙ ap (λ (v : List ℕ). digest v 8) (c .before .hash-blocks .ensures)
+    ∙ ap (λ (v : List ℕ). digest v 8) value
     ∙ after (s .h) (s .done) m (64 * s .done + n) ((n + 72) / 64) (omega arith) (omega arith)
 
 pub sha256-after-spec : {M : Type 1} → statement M

@@ -2,12 +2,12 @@
 use borrow.Author.Needs.{needs}
 use Rattle.sha256.proofs.Growing.{filled}
 use Rattle.sha256.proofs.ScheduleLaws.{four-words}
-use Rattle.sha256_block.specs.Schedule.{schedule, W}
+use Rattle.sha256_block.specs.Schedule.{nextWord, schedule, W}
 use Rattle.sha256.specs.Parsing.{block}
 use Rattle.sha256.specs.Padding.{padding}
 use native.Mathlib.Omega.{arith}
 use mathlib.Core.List.{_++_}
-use lib.ListN.{length, take, length-set}
+use lib.ListN.{length, take, set, getD, length-set}
 use mathlib.Core.Path.{_≡_, ap, _∙_}
 use Prim.Native.Nat.{_≤_, _-_, _+_, _%_}
 use Rattle.sha256.proofs.schedule.schedule.Statement.{statement}
@@ -25,13 +25,16 @@ loop-holds c = search needs
 
 loop-again : tie.Need-loop-again Inv-loop μ-loop
 loop-again c =
-    let at = c .before .before .before .before .before .loop in (
+    let at = c .before .before .before .before .before .loop in
+    let w = set (at .w) (at .n + 16) (c .before .before .before .next-word .result) in
+    let second : c .before .before .next-word2 .result ≡ nextWord (getD w (at .n + 15) 0) (getD w (at .n + 10) 0) (getD w (at .n + 2) 0) (getD w (at .n + 1) 0) =
+    c .before .before .next-word2 .ensures in (
       omega arith,
       omega arith,
       simp length-set (at .inv .2),
       four-words _ _ _ _ _ _ _ (omega arith) (at .inv .3)
           (c .before .before .before .next-word .ensures)
-          (c .before .before .next-word2 .ensures)
+          second
           (c .before .next-word3 .ensures)
           (c .next-word4 .ensures),
     )

@@ -12,7 +12,7 @@ use Rattle.racks.proofs.figures.total_stored.Statement.{statement}
 use Rattle.racks.proofs.figures.total_stored.Tie as tie
 
 abbrev Inv-loop : tie.InvT-loop
-Inv-loop s n total₀ i₀ total i = (i ≤ n) × (total ≤ i * 2 ^ 32) × (total + totalStored (drop i (stateOf n s)) ≡ totalStored (stateOf n s))
+Inv-loop s n total₀ i₀ total i = (total + totalStored (drop i (stateOf n s)) ≡ totalStored (stateOf n s)) × (i ≤ n) × (total ≤ i * 2 ^ 32)
 
 abbrev μ-loop : tie.MeasureT-loop
 μ-loop s n total₀ i₀ total i = n - i
@@ -26,9 +26,11 @@ loop-again c =
     let s = c .before .before .before .before .before .args .s .now in
     let n = length s / rackSize in
     let i = c .before .before .before .loop .i in
+    let total = c .before .before .before .loop .total in
     let next : totalStored (drop i (stateOf n s)) ≡ c .before .read-rack .result .stored + totalStored (drop (i + 1) (stateOf n s)) =
     rw (c .before .read-rack .ensures) (ap totalStored (drop-stateOf n s i (c .before .before .loop-test .taken))) in
-    omega arith
+    let sum : total + c .before .read-rack .result .stored + totalStored (drop (i + 1) (stateOf n s)) ≡ totalStored (stateOf n s) = omega arith in
+    (sum, omega arith, omega arith)
 
 returns : tie.Need-returns Inv-loop μ-loop
 unfolding totalStored

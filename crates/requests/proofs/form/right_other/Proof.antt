@@ -9,7 +9,7 @@ use Rattle.requests.proofs.form.right_other.Tie as tie
 returns : tie.Need-returns
 returns c =
     let o = c .before in
-    sym (other-low _ _ (o .before .before .byte .ensures) (o .byte3 .ensures) (c .if1 .taken))
+    sym (other-low (o .before .before .before .before .args .racks) _ (o .before .before .byte .ensures) (o .byte3 .ensures) (c .if1 .taken))
 
 returns-2 : tie.Need-returns-2
 returns-2 c =

@@ -34,7 +34,7 @@ clear s q free = chosen (overCapacity s q) (overStored s q) (overLimit s q) free
 -- a capacity that is set is not under what is stored
 pub free-capacity : (s : State) (i a : ℕ) → verdict s (Capacity i a) ≡ Free → rackAt s i .stored ≤ a
 unfolding overCapacity
-free-capacity s i a free = ltb-false _ _ (clear s (Capacity i a) free .0)
+free-capacity s i a free = ltb-false a (rackAt s i .stored) (clear s (Capacity i a) free .0)
 
 -- a rack that is charged can take it in
 pub free-charge : (s : State) (i a : ℕ) → verdict s (Charge i a) ≡ Free → TakesIn (arrives (Charge i a)) (rackAt s i)

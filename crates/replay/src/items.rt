@@ -1,14 +1,14 @@
 // The items, each read and answered. A function that answers says whether the run goes on.
-use crate::input::Part;
-use crate::input::Tag;
-use crate::input::read_part;
-use crate::input::read_rack;
-use crate::input::read_tag;
 use crate::making::make_offer;
 use crate::making::make_open;
 use crate::making::make_resume;
 use crate::making::make_view;
 use crate::output::bad;
+use inputs::Part;
+use inputs::Tag;
+use inputs::read_number;
+use inputs::read_part;
+use inputs::read_tag;
 
 // The rooms that buffers are read into: a page, a record or an answer, a request.
 const PAGE: usize = 128;
@@ -78,7 +78,7 @@ fn answer_view() -> bool {
     let Part::Bytes(l) = read_part(&mut record) else {
         return bad();
     };
-    let Part::Bytes(rack) = read_rack() else {
+    let Part::Bytes(rack) = read_number() else {
         return bad();
     };
     make_view(&page, p, &record, l, rack)

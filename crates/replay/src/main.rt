@@ -19,7 +19,6 @@
 //
 // An item that is cut short, that does not fit its room or that begins with another byte is answered by the line `bad`,
 // and the run ends there.
-mod input;
 mod items;
 mod lines;
 mod making;

@@ -1,11 +1,11 @@
 // The items, each read and answered. A function that answers says whether the run goes on.
-use crate::input::Part;
-use crate::input::Tag;
-use crate::input::read_part;
-use crate::input::read_tag;
 use crate::output::bad;
 use crate::output::put;
 use hmac::hmac;
+use inputs::Part;
+use inputs::Tag;
+use inputs::read_part;
+use inputs::read_tag;
 use sha256::sha256;
 
 // The bounds of the hash and of the MAC. The room that a part is read into is as large as its bound.

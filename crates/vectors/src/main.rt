@@ -6,7 +6,6 @@
 //
 // A length is four bytes, the most significant first. An item that is cut short, that has a length out of
 // bounds or that begins with another byte is answered by the line `bad`, and the run ends there.
-mod input;
 mod items;
 mod output;
 

@@ -2,8 +2,8 @@
 use lib.Seq.{length-take-le}
 use mathlib.Core.Path.{sym}
 use borrow.Author.Needs.{needs}
-use Rattle.vectors.proofs.input.read_part.Statement.{statement}
-use Rattle.vectors.proofs.input.read_part.Tie as tie
+use Rattle.inputs.proofs.read_part.Statement.{statement}
+use Rattle.inputs.proofs.read_part.Tie as tie
 
 slice-aggregate-read-full-2 : tie.Need-slice-aggregate-read-full-2
 slice-aggregate-read-full-2 c = sym (length-take-le _ _ (c .before .if2 .left))

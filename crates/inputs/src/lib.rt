@@ -1,19 +1,20 @@
-// What an item is made of, read from standard input.
+// What the items of the programs' input are made of, read from standard input: a byte that an item begins with, numbers of
+// four bytes, and parts, each behind its length. For `vectors` and `replay`.
 use libc::STDIN_FILENO;
 
 // The byte that an item begins with, unless the input ends before it.
-pub(crate) enum Tag {
+pub enum Tag {
     Byte(u8),
     End,
 }
 
-// A part of an item: how many bytes it has, or that it is cut short or does not fit its room.
-pub(crate) enum Part {
+// A part of an item: how many bytes it has, or a number; or that it is cut short or does not fit its room.
+pub enum Part {
     Bytes(usize),
     Bad,
 }
 
-pub(crate) fn read_tag() -> Tag {
+pub fn read_tag() -> Tag {
     let mut byte = [0u8; 1];
     if io::read_full(STDIN_FILENO, &mut byte) == 0 {
         return Tag::End;
@@ -22,7 +23,7 @@ pub(crate) fn read_tag() -> Tag {
 }
 
 // Reads a length, and that many bytes into the front of room.
-pub(crate) fn read_part(room: &mut [u8]) -> Part {
+pub fn read_part(room: &mut [u8]) -> Part {
     let mut field = [0u8; 4];
     if io::read_full(STDIN_FILENO, &mut field) < 4 {
         return Part::Bad;
@@ -50,8 +51,8 @@ fn joined(x0: u8, x1: u8, x2: u8, x3: u8) -> usize {
     (x0 as usize) * 16777216 + (x1 as usize) * 65536 + (x2 as usize) * 256 + (x3 as usize)
 }
 
-// A rack: four bytes.
-pub(crate) fn read_rack() -> Part {
+// A number: four bytes.
+pub fn read_number() -> Part {
     let mut field = [0u8; 4];
     if io::read_full(STDIN_FILENO, &mut field) < 4 {
         return Part::Bad;

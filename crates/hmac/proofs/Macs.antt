@@ -16,7 +16,7 @@ use Rattle.sha256.proofs.ContinuedLaws.{sha256-after}
 use Rattle.sha256.proofs.DigestLaws.{length-sha256}
 use Rattle.hmac.specs.declared.Prepared.{Prepared}
 use Rattle.hmac.specs.Hmac.{B, L, K₀, ipad, opad, _⊕_, hmac}
-use Rattle.hmac.specs.Preparation.{afterBlock, preparedOf, macOf}
+use Rattle.hmac.specs.Preparation.{afterBlock, halves, preparedOf, macOf}
 use Rattle.hmac.proofs.Pads.{xor-repeated}
 
 -- ---- K₀
@@ -69,18 +69,17 @@ length-K₀ K =
 
 -- a key of at most a block, from its two pads
 pub prepared-short : (K i o : List ℕ) → length K ≤ B → i ≡ afterBlock ((K ++ replicate (B - length K) 0) ⊕ ipad)
-    → o ≡ afterBlock ((K ++ replicate (B - length K) 0) ⊕ opad) → _≡_ {A = Prepared} (record { inner = i; outer = o }) (preparedOf K)
+    → o ≡ afterBlock ((K ++ replicate (B - length K) 0) ⊕ opad) → halves i o ≡ preparedOf K
 unfolding preparedOf
 prepared-short K i o short p q =
     let e = sym (K₀-short K short) in
-    ap₂ {C = Prepared} (λ (x y : List ℕ). record { inner = x; outer = y })
-    (p ∙ ap (λ (l : List ℕ). afterBlock (l ⊕ ipad)) e) (q ∙ ap (λ (l : List ℕ). afterBlock (l ⊕ opad)) e)
+    ap₂ halves (p ∙ ap (λ (l : List ℕ). afterBlock (l ⊕ ipad)) e) (q ∙ ap (λ (l : List ℕ). afterBlock (l ⊕ opad)) e)
 
 -- a longer one is prepared as its hash is
 pub prepared-long : (K : List ℕ) → B < length K → preparedOf (sha256 K) ≡ preparedOf K
 unfolding preparedOf
 prepared-long K long =
-    ap {B = Prepared} (λ (l : List ℕ). record { inner = afterBlock (l ⊕ ipad); outer = afterBlock (l ⊕ opad) }) (sym (K₀-long K long))
+    ap (λ (l : List ℕ). halves (afterBlock (l ⊕ ipad)) (afterBlock (l ⊕ opad))) (sym (K₀-long K long))
 
 -- two empty pieces behind a message
 pub no-more : (l : List ℕ) → l ++ [] ++ [] ≡ l

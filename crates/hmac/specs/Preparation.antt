@@ -13,8 +13,12 @@ use Rattle.hmac.specs.Hmac.{K₀, ipad, opad, _⊕_}
 unfoldable pub afterBlock : List ℕ → List ℕ
 afterBlock l = nextHash H₀ (block l 0)
 
+-- a prepared key from its two halves
+abbrev pub halves : List ℕ → List ℕ → Prepared
+halves inner outer = record { inner = inner; outer = outer }
+
 unfoldable pub preparedOf : List ℕ → Prepared
-preparedOf K = record { inner = afterBlock (K₀ K ⊕ ipad); outer = afterBlock (K₀ K ⊕ opad) }
+preparedOf K = halves (afterBlock (K₀ K ⊕ ipad)) (afterBlock (K₀ K ⊕ opad))
 
 -- the MAC of a message: both hashes go on behind one block
 unfoldable pub macOf : Prepared → List ℕ → List ℕ

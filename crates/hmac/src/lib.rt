@@ -10,7 +10,7 @@ ghost use Prim.Native.Nat.{_+_, _-_, _≤_};
 ghost use lib.ListN.{length, replicate};
 ghost use Rattle.sha256.specs.Continued.{sha256After};
 ghost use Rattle.hmac.specs.Hmac.{B, ipad, opad, _⊕_, hmac};
-ghost use Rattle.hmac.specs.Preparation.{afterBlock, preparedOf, macOf};
+ghost use Rattle.hmac.specs.Preparation.{afterBlock, halves, preparedOf, macOf};
 
 // What a key comes to: the hash values after its inner and its outer pad.
 pub struct Prepared {
@@ -43,18 +43,19 @@ pub fn prepare(key: &[u8]) -> Prepared
     Prepared { inner, outer }
 }
 
-// The hash of a and b end to end behind a pad's block, from the hash value after that.
+// The hash of at most 55 bytes, a and b end to end, behind a pad's block, from the hash value after that.
 fn behind(h: &[u32; 8], a: &[u8], b: &[u8]) -> [u8; 32]
-    requires { ⌜ length (now a) + length (now b) ≤ 65472 ⌝ }
+    requires { ⌜ length (now a) + length (now b) ≤ 55 ⌝ }
     ensures { λ r. ⌜ r ≡ sha256After (now (h .entry)) 1 (now (a .entry) ++ now (b .entry)) ⌝ }
 {
     sha256_after(*h, 1, a, b, &b[..0])
 }
 
-// The MAC of a and b end to end, under a key that has been worked out. Its halves are lent, so that no call copies them.
+// The MAC of one message of at most 55 bytes, a and b end to end, under a key that has been worked out: behind a pad it
+// is one block with its padding. The halves of the key are lent, so that no call copies them.
 pub fn mac(inner: &[u32; 8], outer: &[u32; 8], a: &[u8], b: &[u8]) -> [u8; 32]
-    requires { ⌜ length (now a) + length (now b) ≤ 65472 ⌝ }
-    ensures { λ r. ⌜ r ≡ macOf (record { inner = now (inner .entry); outer = now (outer .entry) }) (now (a .entry) ++ now (b .entry)) ⌝ }
+    requires { ⌜ length (now a) + length (now b) ≤ 55 ⌝ }
+    ensures { λ r. ⌜ r ≡ macOf (halves (now (inner .entry)) (now (outer .entry))) (now (a .entry) ++ now (b .entry)) ⌝ }
 {
     let d = behind(inner, a, b);
     behind(outer, &d, &b[..0])

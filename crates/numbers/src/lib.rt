@@ -12,6 +12,5 @@ pub use copying::copy;
 pub use reading::read16;
 pub use reading::read32;
 pub use reading::read64;
-pub use writing::write16;
 pub use writing::write32;
 pub use writing::write64;

@@ -5,14 +5,6 @@ ghost use lib.ListN.{length};
 ghost use Rattle.numbers.specs.Numbers.{bytesOf};
 ghost use Rattle.numbers.specs.Parts.{over};
 
-// Lays x into the two bytes of d from `at` on.
-pub fn write16(d: &mut [u8], at: usize, x: u16)
-    requires { ⌜ at + 2 ≤ length (now d) ⌝ }
-    ensures { λ _. ⌜ now (d .exit) ≡ over at (bytesOf 2 x) (now (d .entry)) ⌝ }
-{
-    fill_at(d, at, 2, x as u64);
-}
-
 // Lays x into the four bytes of d from `at` on.
 pub fn write32(d: &mut [u8], at: usize, x: u32)
     requires { ⌜ at + 4 ≤ length (now d) ⌝ }

@@ -9,6 +9,7 @@ pub use edition::first_state;
 pub use pages::page_key;
 pub use pages::page_summary;
 pub use parts::authenticator_part;
+pub use parts::record_size;
 pub use parts::state_part;
 pub use parts::summary_part;
 use refusals::Refusal;

@@ -1,11 +1,9 @@
 // The tests 3, 4 and 5 of a record, in their order. `header` is the fixed header of the form: its first two
 // bytes decide 3 and its third decides 4.
-use crate::HASH_SIZE;
-use crate::HEADER_SIZE;
 use crate::Tested;
+use crate::parts::record_size;
 use crate::parts::state_part;
 use numbers::same;
-use racks::RACK_SIZE;
 use racks::good_state;
 use refusals::Refusal;
 ghost use mathlib.Core.Path.{_≡_};
@@ -18,7 +16,7 @@ fn right_size(record: &[u8], header: &[u8], racks: usize) -> bool
     requires { ⌜ Described racks (now header) ⌝ }
     ensures { λ r. ⌜ r ≡ rightSize racks (now («record» .entry)) ⌝ }
 {
-    if record.len() != HEADER_SIZE + racks * RACK_SIZE + HASH_SIZE + HASH_SIZE {
+    if record.len() != record_size(racks) {
         return false;
     }
     same(&record[0..2], &header[0..2])

@@ -12,31 +12,28 @@ use Rattle.records.proofs.testing.right_size.Tie as tie
 
 returns : tie.Need-returns
 returns c =
-    let s = c .before .before .before .args in
+    let s = c .before .before .before .before .args in
     sym (size-wrong (s .racks) (s .«record» .now) (λ e. c .if1 .taken (omega arith)))
 
 part-same-end-2 : tie.Need-part-same-end-2
 part-same-end-2 c =
-    let o = c .before .before .before .before in
+    let o = c .before .before .before .before .before in
     omega (arith, length-described (o .args .racks) (o .args .header .now) (o .pre))
 
 returns-2 : tie.Need-returns-2
 unfolding part
 returns-2 c =
-    let o = c .before .before .before .before .before .before in
+    let o = c .before .before .before .before .before .before .before in
     let s = o .args in
     let long : length (s .«record» .now) ≡ recordSize (s .racks) = omega arith in
     let compared : c .same .result ≡ same (part 0 2 (s .«record» .now)) (part 0 2 (s .header .now)) = c .same .ensures in
-    compared ∙ size-right (s .racks) (s .«record» .now) (s .header .now) (o .pre) long (λ i. c .before .before .before .before .before .shared-slice-known .given i .fits)
+    compared ∙ size-right (s .racks) (s .«record» .now) (s .header .now) (o .pre) long (λ i. c .before .before .before .before .before .before .shared-slice-known .given i .fits)
 
 pub right-size-spec : {M : Type 1} → statement M
 right-size-spec =
     tie.close
     (tie.spec
-    (λ c. search needs)
-    (λ c. search needs)
-    (λ c. search needs)
-    (λ c. search needs)
+    (λ c κs. search needs)
     returns
     (λ c. search needs)
     (λ c. search needs)

@@ -3,8 +3,10 @@ use mathlib.Core.Path.{_≡_}
 use Prim.Native.Nat.{ℕ}
 use mathlib.Core.List.{List, _++_}
 use lib.ListN.{length}
-use Rattle.sha256.proofs.DigestLaws.{length-sha256}
+use Rattle.sha256.specs.Continued.{sha256After}
+use Rattle.sha256.proofs.DigestLaws.{length-digest, length-sha256}
 use Rattle.hmac.specs.Hmac.{hmac}
+use Rattle.hmac.specs.declared.Prepared.{Prepared}
 use Rattle.hmac.specs.Preparation.{preparedOf, macOf}
 use Rattle.hmac.proofs.Macs.{mac-prepared}
 use Rattle.bindings.specs.Hashed.{stateMessage, summaryMessage, bindingMessage, stateHash, nextSummary, binding, authenticatorOf}
@@ -20,6 +22,10 @@ length-nextSummary summary request = length-sha256 (summaryMessage summary reque
 pub length-binding : (summary hash : List ℕ) → length (binding summary hash) ≡ 32
 unfolding binding
 length-binding summary hash = length-sha256 (bindingMessage summary hash)
+
+pub length-mac : (key : Prepared) (text : List ℕ) → length (macOf key text) ≡ 32
+unfolding macOf sha256After
+length-mac key text = length-digest _ 8
 
 pub length-authenticator : (key prefix bound : List ℕ) → length (authenticatorOf key prefix bound) ≡ 32
 unfolding authenticatorOf hmac

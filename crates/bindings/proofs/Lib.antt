@@ -1,2 +1,3 @@
--- The laws of what is hashed that other crates cite.
+-- The laws of what is hashed and of sealing that other crates cite.
 pub mod Hashes
+pub mod Seals

@@ -1,12 +1,17 @@
--- What the calls answer to a current record, at the design of n racks and version v.
--- The idea: what carrying the request out answers is what the definition says of the charge rules' verdict. Assumes nothing.
-use mathlib.Core.Path.{_≡_, refl, ap, ap₂, _∙_}
-use mathlib.Core.Bool.{true}
-use Prim.Native.Nat.{ℕ}
-use mathlib.Core.List.{List, []}
+-- What perform and repeat answer, by their tests in the order of the numbers, at the design of n racks and version v.
+-- The idea: what a test found is put in the place of the test, and past them all stands what was written. Assumes nothing.
+use mathlib.Core.Path.{_≡_, refl, sym, ap, ap₂, _∙_}
+use mathlib.Core.Bool.{Bool, true, false, not}
+use Prim.Native.Nat.{ℕ, _≤_}
+use native.Mathlib.Omega.{arith}
+use mathlib.Core.List.{List}
 use lib.ListN.{length}
 use Rattle.numbers.specs.Parts.{over}
+use Rattle.numbers.specs.Comparing.{same}
+use Rattle.numbers.proofs.Comparison.{same-iff}
+use Rattle.numbers.proofs.Testing.{failed, passed}
 use Rattle.refusals.specs.declared.Refusal.{Refusal}
+use Rattle.refusals.specs.declared.Refusal.the-variants.{Authenticator, Current}
 use Rattle.racks.specs.Racks.{State, rackAt}
 use Rattle.racks.specs.Layout.{stateOf}
 use Rattle.racks.specs.Rule.{goodState}
@@ -14,7 +19,7 @@ use Rattle.racks.proofs.StatePlaces.{length-stateOf}
 use Rattle.racks.proofs.StateBytes.{stateOf-bytesOfState}
 use Rattle.racks.proofs.StateRule.{fits-at}
 use Rattle.requests.specs.declared.Request.{Request}
-use Rattle.requests.specs.Requests.{rackOfRequest}
+use Rattle.requests.specs.Requests.{requestOf, rackOfRequest}
 use Rattle.requests.specs.Range.{InRange}
 use Rattle.requests.proofs.Formed.{read-formed}
 use Rattle.rules.specs.declared.Verdict.{Verdict}
@@ -23,85 +28,103 @@ use Rattle.rules.specs.Rules.{verdict, carryOut}
 use Rattle.rules.specs.Replay.{byVerdict, book}
 use Rattle.rules.proofs.Changes.{length-carryOut}
 use Rattle.rules.proofs.Kept.{good-carryOut}
-use Rattle.records.specs.Page.{pageKey}
-use Rattle.records.specs.Record.{stateBytes, summary}
+use Rattle.records.specs.declared.Tested.the-variants.{Passed, Refused as RefusedTest}
+use Rattle.records.specs.Page.{pageSummary, pageKey}
+use Rattle.records.specs.Record.{stateBytes, summary, authenticator, state}
 use Rattle.hmac.specs.declared.Prepared.{Prepared}
-use Rattle.hmac.specs.Preparation.{preparedOf, macOf}
-use Rattle.bindings.specs.Hashed.{stateHash, nextSummary, binding, bindingOf, authenticatorOf}
-use Rattle.bindings.proofs.Hashes.{authenticator-prepared}
-use Rattle.answers.specs.Judging.{afterCurrent}
-use Rattle.answers.specs.Answers.{answeredBy}
+use Rattle.hmac.specs.Preparation.{preparedOf}
+use Rattle.bindings.specs.Hashed.{nextSummary}
+use Rattle.bindings.specs.Sealing.{ownAuthenticator, sealedRecord}
+use Rattle.answers.specs.Hashing.{valid, boundRecord}
+use Rattle.answers.specs.Judging.{afterCurrent, judged, offered, performVerdict, repeatVerdict}
+use Rattle.answers.specs.Answers.{Performed, answeredBy, performed, repeated}
 use Rattle.answers.specs.Edition.{inBytes, servedBytes, storedAfter, design}
-use Rattle.offers.specs.Offers.{Offered}
-use Rattle.offers.proofs.Passing.{offered-good, offered-range}
-use Rattle.next_records.specs.Next.{nextBytes}
-use Rattle.calls.specs.declared.PerformAnswer.{PerformAnswer}
+use Rattle.offers.specs.declared.Offer.{Offer}
+use Rattle.offers.specs.declared.Offer.the-variants.{Formed as FormedOffer, Refused as RefusedOffer}
+use Rattle.offers.specs.Offers.{offeredAt, offerBy, Offered}
+use Rattle.offers.proofs.Authenticators.{valid-prepared, sealed-bound}
+use Rattle.offers.proofs.Passing.{offer-passed, offer-refused, offered as offered-is, offered-good, offered-range}
 use Rattle.calls.specs.declared.PerformAnswer.the-variants.{Done, Refused}
-use Rattle.calls.specs.Told.{told, performedBy, repeatedBy}
-use Rattle.calls.specs.Carried.{Carried, carriedBy}
+use Rattle.calls.specs.Told.{told}
+use Rattle.calls.specs.Next.{movedOn, nextBytes, nextStored}
 
--- the summary behind that of a record
-pub moved-on : (n : ℕ) (l request su next : List ℕ) → su ≡ summary n l → next ≡ nextSummary su request → next ≡ nextSummary (summary n l) request
-moved-on n l request su next is moved = rw is at moved
+-- p is what a call answers whose test 8 says c, and which turns the page into `after`
+pub record Answers (n v : ℕ) (page l request answer : List ℕ) (c : Bool) (after : List ℕ) (p : Performed) : Type 0 where
+  pub is : answeredBy (design n v) page l request answer after (judged (offered (design n v) page l request answer) (valid (design n v) page l) c (servedBytes n (stateBytes n l) request)) ≡ p
 
--- what a page becomes that an accepted call turns into `after`
-abbrev pageAfter : PerformAnswer → List ℕ → List ℕ → List ℕ
-pageAfter (Done stored) after page = after
-pageAfter (Refused r) after page = page
+module _ (n v : ℕ) (page l request answer : List ℕ) where
+  -- perform: a record whose summary is the page's, and the page moves on
+  pub performs : Answers n v page l request answer (same (summary n l) (pageSummary page)) (over 0 (movedOn n l request) page) (performed (design n v) page l request answer)
+  unfolding performed performVerdict nextSummary
+  performs = record { is = refl }
 
-stays : (a : PerformAnswer) (page : List ℕ) → pageAfter a page page ≡ page
-stays (Done stored) page = refl
-stays (Refused r) page = refl
+  -- repeat: a record whose summary, moved on, is the page's, and the page stays
+  pub repeats : Answers n v page l request answer (same (movedOn n l request) (pageSummary page)) page (repeated (design n v) page l request answer)
+  unfolding repeated repeatVerdict nextSummary
+  repeats = record { is = refl }
 
--- the request q of the bytes `request` was offered with the record l, and both have passed tests 1 to 6
+-- the service on the record's state, for a request that was offered with it, and the figure as it is read from the next state's bytes
 module _ (n v : ℕ) (page l request answer : List ℕ) (q : Request) (o : Offered n v (length page) (length answer) l request q) where
-  abbrev state : State
-  state = stateOf n (stateBytes n l)
-
-  -- the service on the record's state
-  served-is : servedBytes n (stateBytes n l) request ≡ inBytes (byVerdict (verdict state q) (carryOut state q))
+  served-is : servedBytes n (stateBytes n l) request ≡ inBytes (byVerdict (verdict (state n l) q) (carryOut (state n l) q))
   unfolding servedBytes book
   served-is = rw (o .read)
 
-  -- the figure in the next state, as it is read from its bytes
-  stored-is : verdict state q ≡ Free → storedAfter n (nextBytes n l q) request ≡ rackAt (carryOut state q) (rackOfRequest q) .stored
+  stored-is : verdict (state n l) q ≡ Free → storedAfter n (nextBytes n l q) request ≡ nextStored n l q
   unfolding storedAfter
   stored-is free =
-      let racks : length state ≡ n = length-stateOf n (stateBytes n l) in
-      let range : InRange (length state) q = rw racks (offered-range n v (length page) (length answer) l request q o) in
-      let good : goodState (carryOut state q) ≡ true = good-carryOut state q range free (offered-good n v (length page) (length answer) l request q o) in
-      let back : stateOf n (nextBytes n l q) ≡ carryOut state q = stateOf-bytesOfState n (carryOut state q) (length-carryOut state q ∙ racks) (λ i. fits-at (carryOut state q) i good) in
+      let racks : length (state n l) ≡ n = length-stateOf n (stateBytes n l) in
+      let range : InRange (length (state n l)) q = rw racks (offered-range n v (length page) (length answer) l request q o) in
+      let good : goodState (carryOut (state n l) q) ≡ true = good-carryOut (state n l) q range free (offered-good n v (length page) (length answer) l request q o) in
+      let back : stateOf n (nextBytes n l q) ≡ carryOut (state n l) q =
+      stateOf-bytesOfState n (carryOut (state n l) q) (length-carryOut (state n l) q ∙ racks) (λ i. fits-at (carryOut (state n l) q) i good) in
       ap₂ (λ (t : State) (p : Request). rackAt t (rackOfRequest p) .stored) back (read-formed n request q (o .read) .1)
 
-  -- `next` is the summary behind that of the record, and the key is the page's
-  module _ (key : Prepared) (next : List ℕ) (prepared : key ≡ preparedOf (pageKey page)) (moved : next ≡ nextSummary (summary n l) request) where
-    -- the next record's authenticator is the one under the page's key
-    mac-is : macOf key (bindingOf next (nextBytes n l q)) ≡ authenticatorOf (pageKey page) [] (bindingOf next (nextBytes n l q))
-    mac-is = rw prepared (authenticator-prepared (pageKey page) [] (bindingOf next (nextBytes n l q)))
+-- tests 1 to 6 of a call end in the offer x
+module _ {n v : ℕ} {page l request answer after : List ℕ} {c : Bool} {p : Performed} (call : Answers n v page l request answer c after p)
+    {x : Offer} (found : x ≡ offerBy (offeredAt n v (length page) (length answer) l request) (requestOf request)) where
+  -- one of them refuses
+  pub early : (r : Refusal) → x ≡ RefusedOffer r → told (Refused r) page answer ≡ p
+  early r refused = rw (offer-refused (offeredAt n v (length page) (length answer) l request) (requestOf request) r (sym found ∙ refused)) at (call .is)
 
-    -- by the verdict of the charge rules
-    by-verdict : (w : Verdict) → verdict state q ≡ w → (after x : List ℕ) (a : PerformAnswer) → _≡_ {A = Carried} (record { told = a; answer = x }) (carriedBy n v key l q next answer w)
-        → told a (pageAfter a after page) x ≡ answeredBy (design n v) page l request answer after (afterCurrent (inBytes (byVerdict w (carryOut state q))))
-    unfolding nextSummary bindingOf binding stateHash
-    by-verdict Free free after x a carried =
-        rw (ap (λ (c : Carried). told (c .told) (pageAfter (c .told) after page) (c .answer)) carried, stored-is free, mac-is, moved)
-    by-verdict (Barred r) barred after x a carried = ap (λ (c : Carried). told (c .told) (pageAfter (c .told) after page) (c .answer)) carried
+  -- all of them pass
+  module _ {q : Request} (formed : x ≡ FormedOffer q) where
+    past : (offeredAt n v (length page) (length answer) l request ≡ Passed) × (requestOf request ≡ q)
+    past = offer-passed (offeredAt n v (length page) (length answer) l request) (requestOf request) q (sym found ∙ formed)
 
-    -- what carrying the request out answers is what the call answers to a current record
-    module _ (a : PerformAnswer) (x : List ℕ) (carried : _≡_ {A = Carried} (record { told = a; answer = x }) (carriedBy n v key l q next answer (verdict state q))) where
-      answered : (after : List ℕ) → told a (pageAfter a after page) x ≡ answeredBy (design n v) page l request answer after (afterCurrent (servedBytes n (stateBytes n l) request))
-      answered after = rw served-is (by-verdict (verdict state q) refl after x a carried)
+    pub asked : Offered n v (length page) (length answer) l request q
+    asked = offered-is n v (length page) (length answer) l request q (past .0) (past .1)
 
-      -- perform: the page moves
-      pub performed-done : (k : ℕ) (y : List ℕ) → a ≡ Done k → y ≡ over 0 next page
-          → told (Done k) y x ≡ performedBy n v page l request answer (afterCurrent (servedBytes n (stateBytes n l) request))
-      performed-done k y done laid = rw (laid, moved) (rw done at (answered (over 0 (nextSummary (summary n l) request) page)))
+    -- r is what test 7 finds under the page's key
+    module _ {key : Prepared} (prepared : key ≡ preparedOf (pageKey page)) {r : Bool} (seven : r ≡ same (authenticator n l) (ownAuthenticator n key l)) where
+      valid-is : r ≡ valid (design n v) page l
+      valid-is = valid-prepared n v page key prepared l r seven
 
-      -- perform: it stays
-      pub performed-refused : (r : Refusal) → a ≡ Refused r
-          → told (Refused r) page x ≡ performedBy n v page l request answer (afterCurrent (servedBytes n (stateBytes n l) request))
-      performed-refused r refused = rw refused at (answered (over 0 (nextSummary (summary n l) request) page))
+      pub forged : not r ≡ true → told (Refused Authenticator) page answer ≡ p
+      forged fails = rw (past .0, failed r _ valid-is fails) at (call .is)
 
-      -- repeat: it stays in any case
-      pub repeated-current : told a page x ≡ repeatedBy n v page l request answer (afterCurrent (servedBytes n (stateBytes n l) request))
-      repeated-current = rw (stays a page) at (answered page)
+      -- t is what test 8 finds
+      module _ (ok : not r ≡ false) {t : Bool} (eight : t ≡ c) where
+        pub stale : not t ≡ true → told (Refused Current) page answer ≡ p
+        stale fails = rw (past .0, passed r _ valid-is ok, failed t c eight fails) at (call .is)
+
+        -- w is the charge rules' verdict
+        module _ (current : not t ≡ false) {w : Verdict} (judgement : w ≡ verdict (state n l) q) where
+          served : answeredBy (design n v) page l request answer after (afterCurrent (inBytes (byVerdict (verdict (state n l) q) (carryOut (state n l) q)))) ≡ p
+          served = rw (past .0, passed r _ valid-is ok, passed t c eight current, served-is n v page l request answer q asked) at (call .is)
+
+          pub barred : (b : Refusal) → w ≡ Barred b → told (Refused b) page answer ≡ p
+          barred b is = rw (sym judgement ∙ is) at served
+
+          -- past all tests, k was answered, the page became y and the answer z, with the summary su
+          pub done : w ≡ Free → {k : ℕ} {y z su : List ℕ} → y ≡ after → su ≡ movedOn n l request → k ≡ nextStored n l q
+              → z ≡ over 0 (sealedRecord n v key su (nextBytes n l q)) answer → told (Done k) y z ≡ p
+          unfolding nextSummary
+          done free {k} {y} {z} {su} moved next stored written =
+              let free-is : verdict (state n l) q ≡ Free = sym judgement ∙ free in
+              let bound : z ≡ over 0 (boundRecord (design n v) page su (nextBytes n l q)) answer =
+              written ∙ ap (λ (m : List ℕ). over 0 m answer) (sealed-bound n v page key prepared su (nextBytes n l q)) in
+              rw (moved, stored, bound, next, ← stored-is n v page l request answer q asked free-is) (rw free-is at served)
+
+-- two summaries that were found the same
+pub follows : {t : Bool} {a b : List ℕ} → t ≡ same a b → not t ≡ false → b ≡ a
+follows {t} {a} {b} compared holds = sym (same-iff a b .0 (passed t (same a b) compared holds))

@@ -1,5 +1,4 @@
--- What the calls answer, by their tests in the order of the numbers: 1 to 6, 7 and 8, and 9 to 11 with the writing.
-mod Offering
-mod ValidAndCurrent
+-- What perform and repeat do: carrying a request out, the writing, and what they answer by their tests.
 mod CarryingOut
+mod Writing
 mod Answering

@@ -1,3 +1,3 @@
--- What the answers of perform and repeat say, and what carrying a request out answers.
+-- What the answers of perform and repeat say, and what a request leads to.
 pub mod Told
-pub mod Carried
+pub mod Next

@@ -3,12 +3,7 @@
 use Prim.Native.Nat.{ℕ}
 use mathlib.Core.List.{List}
 use Rattle.refusals.specs.Numbers.{numberOf}
-use Rattle.numbers.specs.Parts.{over}
-use Rattle.records.specs.Record.{summary}
-use Rattle.bindings.specs.Hashed.{nextSummary}
-use Rattle.answers.specs.Judging.{Verdict}
-use Rattle.answers.specs.Answers.{Performed, answeredBy}
-use Rattle.answers.specs.Edition.{design}
+use Rattle.answers.specs.Answers.{Performed}
 use Rattle.calls.specs.declared.PerformAnswer.{PerformAnswer}
 use Rattle.calls.specs.declared.PerformAnswer.the-variants.{Done, Refused}
 
@@ -24,11 +19,3 @@ storedTold (Refused r) = 0
 -- an answer, with what page and answer buffer hold then
 abbrev pub told : PerformAnswer → List ℕ → List ℕ → Performed
 told r page answer = record { number = numberTold r; stored = storedTold r; page = page; answer = answer }
-
--- perform and repeat from a verdict, at a form of record: perform's page moves on, repeat's stays
-abbrev pub performedBy : ℕ → ℕ → List ℕ → List ℕ → List ℕ → List ℕ → Verdict → Performed
-performedBy n v page l request answer verdict =
-    answeredBy (design n v) page l request answer (over 0 (nextSummary (summary n l) request) page) verdict
-
-abbrev pub repeatedBy : ℕ → ℕ → List ℕ → List ℕ → List ℕ → List ℕ → Verdict → Performed
-repeatedBy n v page l request answer verdict = answeredBy (design n v) page l request answer page verdict

@@ -1,36 +1,36 @@
-// Perform: tests 1 to 6, then 7 and 8 (is it current), then 9 to 11 and the writing (carry it out).
+// Perform, in phases, each of which has returned before the next begins: tests 1 to 6, the key, tests 7 and 8 (is it
+// current), tests 9 to 11, and the writing: the next record in the answer, sealed there, and then the page.
 use crate::PerformAnswer;
+use crate::carrying::carry;
 use crate::carrying::judge_record;
+use crate::carrying::lay_state;
 use bindings::next_summary;
-use hmac::prepare;
-use next_records::write_next;
+use bindings::prepared;
+use bindings::seal;
 use numbers::copy;
-use numbers::same;
 use offers::Offer;
+use offers::current;
 use offers::test_offer;
 use offers::valid;
-use records::page_key;
-use records::page_summary;
+use records::record_size;
 use records::summary_part;
 use refusals::Refusal;
 use requests::Request;
 use rules::Verdict;
 ghost use mathlib.Core.Path.{_≡_};
-ghost use lib.ListN.{length, getD};
-ghost use Rattle.numbers.specs.Comparing.{same};
-ghost use Rattle.racks.specs.Layout.{stateOf};
-ghost use Rattle.rules.specs.declared.Verdict.the-variants.{Free};
-ghost use Rattle.rules.specs.Rules.{verdict};
-ghost use Rattle.records.specs.Page.{pageSummary, pageKey};
-ghost use Rattle.records.specs.Record.{stateBytes, summary, Described};
-ghost use Rattle.hmac.specs.declared.Prepared.{Prepared};
-ghost use Rattle.hmac.specs.Preparation.{preparedOf};
-ghost use Rattle.answers.specs.Hashing.{valid};
-ghost use Rattle.answers.specs.Judging.{afterEarly, afterCurrent};
+ghost use mathlib.Core.List.{[], _∷_};
+ghost use Prim.Native.Nat.{_≤_};
+ghost use lib.ListN.{length};
+ghost use Rattle.numbers.specs.Parts.{over, join};
+ghost use Rattle.requests.specs.Layout.{requestSize};
+ghost use Rattle.rules.specs.Ready.{Ready};
+ghost use Rattle.records.specs.Page.{pageSize};
+ghost use Rattle.records.specs.Record.{stateSize, recordSize, stateBytes, summary, Described};
+ghost use Rattle.hmac.specs.Preparation.{halves};
 ghost use Rattle.answers.specs.Answers.{performed};
-ghost use Rattle.answers.specs.Edition.{design, servedBytes};
-ghost use Rattle.offers.specs.Offers.{Offered};
-ghost use Rattle.calls.specs.Told.{told, performedBy};
+ghost use Rattle.offers.specs.Offers.{designOf};
+ghost use Rattle.calls.specs.Told.{told};
+ghost use Rattle.calls.specs.Next.{movedOn, nextStored, nextRecord};
 
 // The page moves to the next summary, and the next record is laid at the front of the answer.
 pub fn perform(
@@ -42,52 +42,41 @@ pub fn perform(
     racks: usize,
 ) -> PerformAnswer
     requires { ⌜ Described racks (now header) ⌝ }
-    ensures { λ r. ⌜ told r (now (page .exit)) (now (answer .exit)) ≡ performed (design racks (getD (now (header .entry)) 2 0)) (now (page .entry)) (now («record» .entry)) (now (request .entry)) (now (answer .entry)) ⌝ }
+    ensures { λ r. ⌜ told r (now (page .exit)) (now (answer .exit)) ≡ performed (designOf racks (now (header .entry))) (now (page .entry)) (now («record» .entry)) (now (request .entry)) (now (answer .entry)) ⌝ }
 {
     match test_offer(page.len(), answer.len(), record, request, header, racks) {
         Offer::Refused(r) => PerformAnswer::Refused(r),
-        Offer::Formed(q) => perform_offered(page, record, request, q, answer, header, racks),
+        Offer::Formed(q) => {
+            let key = prepared(page);
+            if !valid(&key.inner, &key.outer, record, racks) {
+                return PerformAnswer::Refused(Refusal::Authenticator);
+            }
+            if !current(page, record, racks) {
+                return PerformAnswer::Refused(Refusal::Current);
+            }
+            match judge_record(record, q, racks) {
+                Verdict::Barred(r) => PerformAnswer::Refused(r),
+                Verdict::Free => {
+                    let stored = write_performed(
+                        page,
+                        record,
+                        request,
+                        q,
+                        answer,
+                        header,
+                        &key.inner,
+                        &key.outer,
+                        racks,
+                    );
+                    PerformAnswer::Done { stored }
+                }
+            }
+        }
     }
 }
 
-// Tests 7 and 8: is it current.
-fn perform_offered(
-    page: &mut [u8],
-    record: &[u8],
-    request: &[u8],
-    q: Request,
-    answer: &mut [u8],
-    header: &[u8],
-    racks: usize,
-) -> PerformAnswer
-    requires { ⌜ Described racks (now header) ⌝ }
-    requires { ⌜ Offered racks (getD (now header) 2 0) (length (now page)) (length (now answer)) (now «record») (now request) q ⌝ }
-    ensures { λ r. ⌜ told r (now (page .exit)) (now (answer .exit)) ≡ performedBy racks (getD (now (header .entry)) 2 0) (now (page .entry)) (now («record» .entry)) (now (request .entry)) (now (answer .entry)) (afterEarly (valid (design racks (getD (now (header .entry)) 2 0)) (now (page .entry)) (now («record» .entry))) (same (summary racks (now («record» .entry))) (pageSummary (now (page .entry)))) (servedBytes racks (stateBytes racks (now («record» .entry))) (now (request .entry)))) ⌝ }
-{
-    let key = prepare(page_key(page));
-    if !valid(&key.inner, &key.outer, record, racks) {
-        return PerformAnswer::Refused(Refusal::Authenticator);
-    }
-    let summary = summary_part(record, racks);
-    let held = page_summary(page);
-    if !same(summary, held) {
-        return PerformAnswer::Refused(Refusal::Current);
-    }
-    perform_current(
-        page,
-        record,
-        request,
-        q,
-        answer,
-        header,
-        &key.inner,
-        &key.outer,
-        racks,
-    )
-}
-
-// Tests 9 to 11: the next summary is hashed only where no charge rule bars the request.
-fn perform_current<'a>(
+// The writing, past all tests: the next record is laid in the answer and sealed there, and the page moves to its summary.
+fn write_performed<'a>(
     page: &mut [u8],
     record: &[u8],
     request: &[u8],
@@ -97,50 +86,46 @@ fn perform_current<'a>(
     inner: &'a [u32; 8],
     outer: &'a [u32; 8],
     racks: usize,
-) -> PerformAnswer
+) -> u32
+    requires { ⌜ length (now page) ≡ pageSize ⌝ }
+    requires { ⌜ length (now request) ≡ requestSize ⌝ }
     requires { ⌜ Described racks (now header) ⌝ }
-    requires { ⌜ Offered racks (getD (now header) 2 0) (length (now page)) (length (now answer)) (now «record») (now request) q ⌝ }
-    requires { ⌜ _≡_ {A = Prepared} (record { inner = now inner; outer = now outer }) (preparedOf (pageKey (now page))) ⌝ }
-    ensures { λ r. ⌜ told r (now (page .exit)) (now (answer .exit)) ≡ performedBy racks (getD (now (header .entry)) 2 0) (now (page .entry)) (now («record» .entry)) (now (request .entry)) (now (answer .entry)) (afterCurrent (servedBytes racks (stateBytes racks (now («record» .entry))) (now (request .entry)))) ⌝ }
+    requires { ⌜ recordSize racks ≤ length (now answer) ⌝ }
+    requires { ⌜ length (now «record») ≡ recordSize racks ⌝ }
+    requires { ⌜ Ready (stateBytes racks (now «record»)) q ⌝ }
+    ensures { λ _. ⌜ now (page .exit) ≡ over 0 (movedOn racks (now («record» .entry)) (now (request .entry))) (now (page .entry)) ⌝ }
+    ensures { λ _. ⌜ now (answer .exit) ≡ over 0 (nextRecord racks (now (header .entry)) (halves (now (inner .entry)) (now (outer .entry))) (now («record» .entry)) q (movedOn racks (now («record» .entry)) (now (request .entry)))) (now (answer .entry)) ⌝ }
+    ensures { λ r. ⌜ r ≡ nextStored racks (now («record» .entry)) q ⌝ }
 {
-    match judge_record(record, q, racks) {
-        Verdict::Barred(r) => PerformAnswer::Refused(r),
-        Verdict::Free => perform_free(
-            page,
-            record,
-            request,
-            q,
-            answer,
-            header,
-            inner,
-            outer,
-            racks,
-        ),
-    }
+    lay_performed(answer, header, record, request, racks);
+    let stored = carry(answer, q, racks);
+    seal(answer, inner, outer, racks);
+    let written = &answer[..];
+    move_page(page, written, racks);
+    stored
 }
 
-// The writing: the next record is laid in the answer, and the page moves.
-fn perform_free(
-    page: &mut [u8],
-    record: &[u8],
-    request: &[u8],
-    q: Request,
-    answer: &mut [u8],
-    header: &[u8],
-    inner: &[u32; 8],
-    outer: &[u32; 8],
-    racks: usize,
-) -> PerformAnswer
+// Lays the header, the record's state and the next summary at the front of the answer.
+fn lay_performed(answer: &mut [u8], header: &[u8], record: &[u8], request: &[u8], racks: usize)
     requires { ⌜ Described racks (now header) ⌝ }
-    requires { ⌜ Offered racks (getD (now header) 2 0) (length (now page)) (length (now answer)) (now «record») (now request) q ⌝ }
-    requires { ⌜ _≡_ {A = Prepared} (record { inner = now inner; outer = now outer }) (preparedOf (pageKey (now page))) ⌝ }
-    requires { ⌜ verdict (stateOf racks (stateBytes racks (now «record»))) q ≡ Free ⌝ }
-    ensures { λ r. ⌜ told r (now (page .exit)) (now (answer .exit)) ≡ performedBy racks (getD (now (header .entry)) 2 0) (now (page .entry)) (now («record» .entry)) (now (request .entry)) (now (answer .entry)) (afterCurrent (servedBytes racks (stateBytes racks (now («record» .entry))) (now (request .entry)))) ⌝ }
+    requires { ⌜ recordSize racks ≤ length (now answer) ⌝ }
+    requires { ⌜ length (now «record») ≡ recordSize racks ⌝ }
+    requires { ⌜ length (now request) ≡ requestSize ⌝ }
+    ensures { λ _. ⌜ now (answer .exit) ≡ over 0 (join (now (header .entry) ∷ stateBytes racks (now («record» .entry)) ∷ movedOn racks (now («record» .entry)) (now (request .entry)) ∷ [])) (now (answer .entry)) ⌝ }
 {
-    let summary = summary_part(record, racks);
-    let hash = next_summary(summary, request);
+    let own = summary_part(record, racks);
+    let hash = next_summary(own, request);
     let next: &[u8] = &hash;
-    let stored = write_next(answer, header, record, q, next, inner, outer, racks);
-    copy(page, 0, next);
-    PerformAnswer::Done { stored }
+    lay_state(answer, header, record, next, racks);
+}
+
+// Moves the page to the summary of the record in the answer.
+fn move_page(page: &mut [u8], answer: &[u8], racks: usize)
+    requires { ⌜ length (now page) ≡ pageSize ⌝ }
+    requires { ⌜ recordSize racks ≤ length (now answer) ⌝ }
+    requires { ⌜ stateSize racks ≤ 65535 ⌝ }
+    ensures { λ _. ⌜ now (page .exit) ≡ over 0 (summary racks (now (answer .entry))) (now (page .entry)) ⌝ }
+{
+    let size = record_size(racks);
+    copy(page, 0, summary_part(&answer[..size], racks));
 }

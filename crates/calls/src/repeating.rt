@@ -1,30 +1,35 @@
-// Repeat: as perform, but current is a record whose summary, moved on by the request, gives the page's; the page stays.
+// Repeat, in the phases of perform, but current is a record whose summary, moved on by the request, gives the page's; so the
+// next record is sealed with the page's summary, and the page stays.
 use crate::PerformAnswer;
 use crate::carrying::carry;
+use crate::carrying::judge_record;
+use crate::carrying::lay_state;
 use bindings::next_summary;
-use hmac::prepare;
+use bindings::prepared;
+use bindings::seal;
 use numbers::same;
 use offers::Offer;
 use offers::test_offer;
 use offers::valid;
-use records::page_key;
 use records::page_summary;
 use records::summary_part;
 use refusals::Refusal;
 use requests::Request;
+use rules::Verdict;
 ghost use mathlib.Core.Path.{_≡_};
-ghost use lib.ListN.{length, getD};
+ghost use Prim.Native.Nat.{_≤_};
+ghost use lib.ListN.{length};
+ghost use Rattle.numbers.specs.Parts.{over};
 ghost use Rattle.numbers.specs.Comparing.{same};
-ghost use Rattle.requests.specs.Requests.{requestOf};
-ghost use Rattle.records.specs.Page.{pageSummary};
-ghost use Rattle.records.specs.Record.{stateBytes, summary, Described};
-ghost use Rattle.bindings.specs.Hashed.{nextSummary};
-ghost use Rattle.answers.specs.Hashing.{valid};
-ghost use Rattle.answers.specs.Judging.{afterEarly};
+ghost use Rattle.requests.specs.Layout.{requestSize};
+ghost use Rattle.rules.specs.Ready.{Ready};
+ghost use Rattle.records.specs.Page.{pageSize, pageSummary};
+ghost use Rattle.records.specs.Record.{recordSize, stateBytes, Described};
+ghost use Rattle.hmac.specs.Preparation.{halves};
 ghost use Rattle.answers.specs.Answers.{repeated};
-ghost use Rattle.answers.specs.Edition.{design, servedBytes};
-ghost use Rattle.offers.specs.Offers.{offeredAt, offerBy, Offered};
-ghost use Rattle.calls.specs.Told.{told, repeatedBy};
+ghost use Rattle.offers.specs.Offers.{designOf};
+ghost use Rattle.calls.specs.Told.{told};
+ghost use Rattle.calls.specs.Next.{movedOn, nextStored, nextRecord};
 
 // The next record is laid at the front of the answer, as perform laid it; the page stays.
 pub fn repeat(
@@ -36,62 +41,73 @@ pub fn repeat(
     racks: usize,
 ) -> PerformAnswer
     requires { ⌜ Described racks (now header) ⌝ }
-    ensures { λ r. ⌜ told r (now (page .entry)) (now (answer .exit)) ≡ repeated (design racks (getD (now (header .entry)) 2 0)) (now (page .entry)) (now («record» .entry)) (now (request .entry)) (now (answer .entry)) ⌝ }
+    ensures { λ r. ⌜ told r (now (page .entry)) (now (answer .exit)) ≡ repeated (designOf racks (now (header .entry))) (now (page .entry)) (now («record» .entry)) (now (request .entry)) (now (answer .entry)) ⌝ }
 {
-    match offer(page.len(), answer.len(), record, request, header, racks) {
+    match test_offer(page.len(), answer.len(), record, request, header, racks) {
         Offer::Refused(r) => PerformAnswer::Refused(r),
-        Offer::Formed(q) => repeat_offered(page, record, request, q, answer, header, racks),
+        Offer::Formed(q) => {
+            let key = prepared(page);
+            if !valid(&key.inner, &key.outer, record, racks) {
+                return PerformAnswer::Refused(Refusal::Authenticator);
+            }
+            if !leads_to(page, record, request, racks) {
+                return PerformAnswer::Refused(Refusal::Current);
+            }
+            match judge_record(record, q, racks) {
+                Verdict::Barred(r) => PerformAnswer::Refused(r),
+                Verdict::Free => {
+                    let stored = write_repeated(
+                        page,
+                        record,
+                        q,
+                        answer,
+                        header,
+                        &key.inner,
+                        &key.outer,
+                        racks,
+                    );
+                    PerformAnswer::Done { stored }
+                }
+            }
+        }
     }
 }
 
-// Tests 1 to 6, as `test_offer` makes them; what is lent to it is off the stack when this returns.
-fn offer(
-    page: usize,
-    room: usize,
-    record: &[u8],
-    request: &[u8],
-    header: &[u8],
-    racks: usize,
-) -> Offer
-    requires { ⌜ Described racks (now header) ⌝ }
-    ensures { λ r. ⌜ r ≡ offerBy (offeredAt racks (getD (now (header .entry)) 2 0) page room (now («record» .entry)) (now (request .entry))) (requestOf (now (request .entry))) ⌝ }
+// Test 8 of repeat: whether the record's summary, moved on by the request, is the page's.
+fn leads_to(page: &[u8], record: &[u8], request: &[u8], racks: usize) -> bool
+    requires { ⌜ length (now page) ≡ pageSize ⌝ }
+    requires { ⌜ length (now «record») ≡ recordSize racks ⌝ }
+    requires { ⌜ length (now request) ≡ requestSize ⌝ }
+    ensures { λ r. ⌜ r ≡ same (movedOn racks (now («record» .entry)) (now (request .entry))) (pageSummary (now (page .entry))) ⌝ }
 {
-    test_offer(page, room, record, request, header, racks)
+    let own = summary_part(record, racks);
+    let hash = next_summary(own, request);
+    let next: &[u8] = &hash;
+    let held = page_summary(page);
+    same(next, held)
 }
 
-// Tests 7 and 8: is it the record that the page's last request was performed on.
-fn repeat_offered(
+// The writing, past all tests: the next record is laid in the answer with the page's summary, and sealed there.
+fn write_repeated<'a>(
     page: &[u8],
     record: &[u8],
-    request: &[u8],
     q: Request,
     answer: &mut [u8],
     header: &[u8],
+    inner: &'a [u32; 8],
+    outer: &'a [u32; 8],
     racks: usize,
-) -> PerformAnswer
+) -> u32
+    requires { ⌜ length (now page) ≡ pageSize ⌝ }
     requires { ⌜ Described racks (now header) ⌝ }
-    requires { ⌜ Offered racks (getD (now header) 2 0) (length (now page)) (length (now answer)) (now «record») (now request) q ⌝ }
-    ensures { λ r. ⌜ told r (now (page .entry)) (now (answer .exit)) ≡ repeatedBy racks (getD (now (header .entry)) 2 0) (now (page .entry)) (now («record» .entry)) (now (request .entry)) (now (answer .entry)) (afterEarly (valid (design racks (getD (now (header .entry)) 2 0)) (now (page .entry)) (now («record» .entry))) (same (nextSummary (summary racks (now («record» .entry))) (now (request .entry))) (pageSummary (now (page .entry)))) (servedBytes racks (stateBytes racks (now («record» .entry))) (now (request .entry)))) ⌝ }
+    requires { ⌜ recordSize racks ≤ length (now answer) ⌝ }
+    requires { ⌜ length (now «record») ≡ recordSize racks ⌝ }
+    requires { ⌜ Ready (stateBytes racks (now «record»)) q ⌝ }
+    ensures { λ _. ⌜ now (answer .exit) ≡ over 0 (nextRecord racks (now (header .entry)) (halves (now (inner .entry)) (now (outer .entry))) (now («record» .entry)) q (pageSummary (now (page .entry)))) (now (answer .entry)) ⌝ }
+    ensures { λ r. ⌜ r ≡ nextStored racks (now («record» .entry)) q ⌝ }
 {
-    let key = prepare(page_key(page));
-    if !valid(&key.inner, &key.outer, record, racks) {
-        return PerformAnswer::Refused(Refusal::Authenticator);
-    }
-    let summary = summary_part(record, racks);
-    let hash = next_summary(summary, request);
-    let next: &[u8] = &hash;
-    let held = page_summary(page);
-    if !same(next, held) {
-        return PerformAnswer::Refused(Refusal::Current);
-    }
-    carry(
-        record,
-        q,
-        answer,
-        header,
-        next,
-        &key.inner,
-        &key.outer,
-        racks,
-    )
+    lay_state(answer, header, record, page_summary(page), racks);
+    let stored = carry(answer, q, racks);
+    seal(answer, inner, outer, racks);
+    stored
 }

@@ -24,7 +24,7 @@ use Rattle.records.specs.Tests.{tested}
 use Rattle.records.proofs.Headers.{right-length}
 use Rattle.answers.specs.Judging.{unless, andThen}
 use Rattle.offers.specs.declared.Offer.the-variants.{Formed as FormedOffer, Refused as RefusedOffer}
-use Rattle.offers.specs.Offers.{offeredAt, lookedAt, offerBy, Offered, Offering, Looked}
+use Rattle.offers.specs.Offers.{offeredAt, lookedAt, offerBy, Offered, Looked}
 
 -- ---- an offer
 
@@ -104,9 +104,6 @@ module _ (n v page room : ℕ) (l request : List ℕ) (q : Request) (o : Offered
 
   pub offered-named : Named n q
   offered-named = offered-range .named
-
-  pub offering : Offering n v room l q
-  offering = record { answer = o .answer; passed = o .passed; range = offered-range }
 
 module _ (n v page : ℕ) (l : List ℕ) (rack : ℕ) (o : Looked n v page l rack) where
   pub looked-length : length l ≡ recordSize n

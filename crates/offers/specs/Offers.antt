@@ -2,21 +2,27 @@
 use mathlib.Core.Path.{_≡_}
 use Prim.Native.Nat.{ℕ, _≤_, _<_}
 use mathlib.Core.List.{List}
+use lib.ListN.{getD}
 use lib.Dec.{eqb, leb, ltb}
 use Rattle.refusals.specs.declared.Refusal.the-variants.{Page, Answer, Request as RequestRefusal}
 use Rattle.requests.specs.declared.Request.{Request}
 use Rattle.requests.specs.declared.Reading.the-variants.{Formed}
 use Rattle.requests.specs.Formed.{wellFormed}
 use Rattle.requests.specs.Requests.{readRequest}
-use Rattle.requests.specs.Range.{InRange}
 use Rattle.records.specs.declared.Tested.{Tested}
 use Rattle.records.specs.declared.Tested.the-variants.{Passed, Refused as Refused}
 use Rattle.records.specs.Page.{pageSize}
 use Rattle.records.specs.Record.{recordSize}
 use Rattle.records.specs.Tests.{tested}
+use Rattle.answers.specs.Design.{Design}
 use Rattle.answers.specs.Judging.{unless, andThen}
+use Rattle.answers.specs.Edition.{design}
 use Rattle.offers.specs.declared.Offer.{Offer}
 use Rattle.offers.specs.declared.Offer.the-variants.{Formed as FormedOffer, Refused as RefusedOffer}
+
+-- the design of a form of record: so many racks, and the version that stands in its header
+abbrev pub designOf : ℕ → List ℕ → Design
+designOf n header = design n (getD header 2 0)
 
 -- `offered` of the calls' definitions, for a page and an answer buffer of these lengths
 abbrev pub offeredAt : ℕ → ℕ → ℕ → ℕ → List ℕ → List ℕ → Tested
@@ -44,12 +50,6 @@ pub record Offered (n v page room : ℕ) (l request : List ℕ) (q : Request) : 
   pub answer : recordSize n ≤ room
   pub passed : tested n v l ≡ Passed
   pub read : readRequest n request ≡ Formed q
-
--- what carrying a request out needs of this: room for the answer, a record whose tests have passed, a request among its racks
-pub record Offering (n v room : ℕ) (l : List ℕ) (q : Request) : Type 0 where
-  pub answer : recordSize n ≤ room
-  pub passed : tested n v l ≡ Passed
-  pub range : InRange n q
 
 -- tests 1 to 6 of view have passed
 pub record Looked (n v page : ℕ) (l : List ℕ) (rack : ℕ) : Type 0 where

@@ -1,4 +1,4 @@
-// What is offered to a call: the tests of it in the order of their numbers, 1 to 6, and test 7, the authenticator.
+// What is offered to a call: the tests of it in the order of their numbers, 1 to 6, and tests 7 and 8, each by itself.
 // Records and requests are read where they lie; the number of racks and the header are parameters.
 mod testing;
 mod validity;
@@ -7,6 +7,7 @@ use refusals::Refusal;
 use requests::Request;
 pub use testing::test_look;
 pub use testing::test_offer;
+pub use validity::current;
 pub use validity::valid;
 
 // What the tests find: the request, or the first refusal.

@@ -1,10 +1,8 @@
 // The tests before the authenticator, 1 to 6.
 use crate::Offer;
-use racks::RACK_SIZE;
-use records::HASH_SIZE;
-use records::HEADER_SIZE;
 use records::PAGE_SIZE;
 use records::Tested;
+use records::record_size;
 use records::test_record;
 use refusals::Refusal;
 use requests::Reading;
@@ -30,7 +28,7 @@ pub fn test_offer(
     if page != PAGE_SIZE {
         return Offer::Refused(Refusal::Page);
     }
-    if room < HEADER_SIZE + racks * RACK_SIZE + HASH_SIZE + HASH_SIZE {
+    if room < record_size(racks) {
         return Offer::Refused(Refusal::Answer);
     }
     match test_record(record, header, racks) {

@@ -1,28 +1,35 @@
--- What open answers, by what its three tests say. Assumes nothing.
+-- What open answers, by what its three tests say, and the record that it writes. Assumes nothing.
 use mathlib.Core.Path.{_≡_, refl, sym, ap, _∙_}
 use mathlib.Core.Bool.{Bool, true, false, not}
-use Prim.Native.Nat.{ℕ, _≤_, _<_}
-use mathlib.Core.List.{List}
+use Prim.Native.Nat.{ℕ, _*_, _≤_, _<_}
+use mathlib.Core.List.{List, [], _∷_}
 use lib.ListN.{length, replicate}
 use lib.Dec.{eqb, leb}
 use borrow.Author.Tests.{eq-eqb, ne-eqb, le-leb, lt-leb}
-use Rattle.numbers.specs.Parts.{over}
+use Rattle.numbers.specs.Parts.{over, join}
 use Rattle.numbers.specs.Comparing.{same}
 use Rattle.numbers.proofs.Comparison.{same-iff}
 use Rattle.numbers.proofs.Testing.{failed, passed}
 use Rattle.racks.specs.Racks.{firstState}
-use Rattle.racks.specs.Layout.{bytesOfState}
+use Rattle.racks.specs.Layout.{rackSize, bytesOfState}
 use Rattle.racks.specs.Edition.{racks}
+use Rattle.racks.proofs.FirstState.{length-firstState}
+use Rattle.racks.proofs.StateBytes.{length-bytesOfState}
 use Rattle.refusals.specs.declared.Refusal.the-variants.{Page, Answer, Fresh}
-use Rattle.records.specs.Page.{hashSize, pageSize, pageSummary, zeroSummary}
-use Rattle.records.specs.Record.{recordSize}
+use Rattle.records.specs.Page.{hashSize, pageSize, pageSummary, pageKey, zeroSummary}
+use Rattle.records.specs.Record.{stateSize, recordSize, header}
+use Rattle.records.specs.Edition.{recordVersion}
+use Rattle.hmac.specs.declared.Prepared.{Prepared}
+use Rattle.hmac.specs.Preparation.{preparedOf}
+use Rattle.bindings.specs.Sealing.{sealed}
+use Rattle.bindings.proofs.Seals.{length-pageSummary, sealed-laid}
 use Rattle.answers.specs.Hashing.{boundRecord}
 use Rattle.answers.specs.Judging.{unless, andThen}
 use Rattle.answers.specs.Answers.{Opened, openedBy, openTests, opened}
 use Rattle.answers.specs.Edition.{thisEdition}
+use Rattle.offers.proofs.Authenticators.{sealed-bound}
 use Rattle.opens.specs.declared.OpenAnswer.the-variants.{Opened as Accepted, Refused}
 use Rattle.opens.specs.Told.{toldOpen}
-use Rattle.opens.proofs.First.{summary-long}
 
 -- by the tests' answers
 by-tests : (page answer : List ℕ) (a b c : Bool) → eqb (length page) pageSize ≡ a → leb (recordSize racks) (length answer) ≡ b
@@ -35,7 +42,7 @@ by-tests page answer a b c p q r = rw (p, q, r) refl
 zeros : (page s : List ℕ) (r : Bool) → length page ≡ pageSize → s ≡ pageSummary page → r ≡ same s (replicate (length s) 0)
     → r ≡ same (pageSummary page) zeroSummary
 unfolding zeroSummary
-zeros page s r long is test = test ∙ rw (summary-long page s long is, is) refl
+zeros page s r long is test = test ∙ rw (is, length-pageSummary page long) refl
 
 module _ (page answer : List ℕ) where
   pub open-1 : (length page ≡ pageSize → ⊥) → toldOpen (Refused Page) page answer ≡ opened thisEdition page answer
@@ -50,10 +57,21 @@ module _ (page answer : List ℕ) where
       open-13 old =
           rw (by-tests page answer true true false (eq-eqb (length page) pageSize size) (le-leb (recordSize racks) (length answer) room) (failed r _ (zeros page s r size is test) old)) refl
 
-      pub fresh : not r ≡ false → pageSummary page ≡ zeroSummary
+      fresh : not r ≡ false → pageSummary page ≡ zeroSummary
       fresh new = same-iff (pageSummary page) zeroSummary .0 (passed r _ (zeros page s r size is test) new)
 
-      pub open-0 : not r ≡ false → (after : List ℕ) → after ≡ over 0 (boundRecord thisEdition page zeroSummary (bytesOfState (firstState racks))) answer
+      pub open-0 : not r ≡ false → (after : List ℕ) → after ≡ over 0 (boundRecord thisEdition page (pageSummary page) (bytesOfState (firstState racks))) answer
           → toldOpen Accepted page after ≡ opened thisEdition page answer
       open-0 new after written =
-          rw (by-tests page answer true true true (eq-eqb (length page) pageSize size) (le-leb (recordSize racks) (length answer) room) (passed r _ (zeros page s r size is test) new), written) refl
+          rw (by-tests page answer true true true (eq-eqb (length page) pageSize size) (le-leb (recordSize racks) (length answer) room) (passed r _ (zeros page s r size is test) new), written, fresh new) refl
+
+-- the header, the first state and a summary, sealed under the page's key
+pub first-sealed : (page su x y z : List ℕ) (key : Prepared) → recordSize racks ≤ length x → length su ≡ hashSize → su ≡ pageSummary page → key ≡ preparedOf (pageKey page)
+    → y ≡ over 0 (join (header racks recordVersion ∷ bytesOfState (firstState racks) ∷ su ∷ [])) x → z ≡ sealed racks key y
+    → z ≡ over 0 (boundRecord thisEdition page (pageSummary page) (bytesOfState (firstState racks))) x
+first-sealed page su x y z key room wide is prepared laid seals =
+    let size : length (bytesOfState (firstState racks)) ≡ stateSize racks = length-bytesOfState (firstState racks) ∙ ap (λ (k : ℕ). k * rackSize) (length-firstState racks) in
+    seals
+    ∙ ap (sealed racks key) laid
+    ∙ sealed-laid racks recordVersion (bytesOfState (firstState racks)) su x size wide room key
+    ∙ rw (sealed-bound racks recordVersion page key prepared su (bytesOfState (firstState racks)), is)

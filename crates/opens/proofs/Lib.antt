@@ -1,3 +1,2 @@
 -- What is proved of open.
-pub mod First
 pub mod Cases

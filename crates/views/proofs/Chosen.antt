@@ -1,19 +1,24 @@
 -- Resume by its cases: the first test that fails makes a record not current, and RAM's goes before the disk's. Assumes nothing.
 use mathlib.Core.Path.{_≡_, refl, sym, _∙_}
-use mathlib.Core.Bool.{Bool, true, false}
+use mathlib.Core.Bool.{Bool, true, false, not}
 use Prim.Native.Nat.{ℕ, _≤_}
 use mathlib.Core.List.{List}
 use lib.ListN.{length}
 use lib.Dec.{eqb}
 use borrow.Author.Tests.{eq-eqb, ne-eqb}
 use Rattle.numbers.specs.Comparing.{same}
+use Rattle.numbers.proofs.Testing.{failed, passed}
 use Rattle.refusals.specs.declared.Refusal.{Refusal}
 use Rattle.refusals.specs.declared.Refusal.the-variants.{Page}
 use Rattle.records.specs.declared.Tested.{Tested}
 use Rattle.records.specs.declared.Tested.the-variants.{Passed, Refused}
-use Rattle.records.specs.Page.{pageSize, pageSummary}
-use Rattle.records.specs.Record.{stateSize, recordSize, stateBytes, summary, Described}
+use Rattle.records.specs.Page.{pageSize, pageSummary, pageKey}
+use Rattle.records.specs.Record.{stateSize, recordSize, stateBytes, summary, authenticator, Described}
 use Rattle.records.specs.Tests.{tested}
+use Rattle.hmac.specs.declared.Prepared.{Prepared}
+use Rattle.hmac.specs.Preparation.{preparedOf}
+use Rattle.bindings.specs.Sealing.{ownAuthenticator}
+use Rattle.offers.proofs.Authenticators.{valid-prepared}
 use Rattle.offers.proofs.Passing.{passed-length, bound}
 use Rattle.answers.specs.Design.{Design, Served}
 use Rattle.answers.specs.Hashing.{valid}
@@ -41,20 +46,21 @@ module _ (n v : ℕ) (page l : List ℕ) where
     pub not-tested : (r : Refusal) → t ≡ Refused r → false ≡ isGood (resumeVerdict (design n v) page l)
     not-tested r found = current-by true _ _ (Refused r) (eq-eqb (length page) pageSize size) (sym test ∙ found) refl refl
 
-    module _ (passed : t ≡ Passed) where
-      pub not-valid : valid (design n v) page l ≡ false → false ≡ isGood (resumeVerdict (design n v) page l)
-      not-valid forged = current-by true false _ Passed (eq-eqb (length page) pageSize size) (sym test ∙ passed) forged refl
+    -- r is what test 7 finds under the page's key
+    module _ (past : t ≡ Passed) {key : Prepared} (prepared : key ≡ preparedOf (pageKey page)) {r : Bool} (seven : r ≡ same (authenticator n l) (ownAuthenticator n key l)) where
+      valid-is : r ≡ valid (design n v) page l
+      valid-is = valid-prepared n v page key prepared l r seven
 
-      pub is-current : valid (design n v) page l ≡ true → (c : Bool) → c ≡ same (summary n l) (pageSummary page) → c ≡ isGood (resumeVerdict (design n v) page l)
-      is-current ok c is = good-is c (stateBytes n l) ∙ current-by true true c Passed (eq-eqb (length page) pageSize size) (sym test ∙ passed) ok (sym is)
+      pub not-valid : not r ≡ true → false ≡ isGood (resumeVerdict (design n v) page l)
+      not-valid fails = current-by true false _ Passed (eq-eqb (length page) pageSize size) (sym test ∙ past) (failed r _ valid-is fails) refl
 
--- parts of lent bytes are compared where they lie
-pub parts-compared : {r : Bool} {a b : List ℕ} (x y : List ℕ) → r ≡ same a b → a ≡ x → b ≡ y → r ≡ same x y
-parts-compared x y is p q = cc
+      pub is-current : not r ≡ false → (c : Bool) → c ≡ same (summary n l) (pageSummary page) → c ≡ isGood (resumeVerdict (design n v) page l)
+      is-current ok c is =
+          good-is c (stateBytes n l) ∙ current-by true true c Passed (eq-eqb (length page) pageSize size) (sym test ∙ past) (passed r _ valid-is ok) (sym is)
 
--- a record whose tests have passed is as test 7 needs it
+-- a record whose tests have passed is as tests 7 and 8 need it
 pub tested-ready : (n v : ℕ) (header l : List ℕ) (t : Tested) → Described n header → t ≡ tested n v l → t ≡ Passed → (length l ≡ recordSize n) × (stateSize n ≤ 65535)
-tested-ready n v header l t described test passed = (passed-length n v l (sym test ∙ passed), bound n header described)
+tested-ready n v header l t described test past = (passed-length n v l (sym test ∙ past), bound n header described)
 
 -- ---- which of the two
 

@@ -1,6 +1,6 @@
 -- View by its cases: what is refused gives its number and zeros, and past the tests are the figures. Assumes nothing.
-use mathlib.Core.Path.{_≡_, refl, sym, ap, ap₂, _∙_}
-use mathlib.Core.Bool.{Bool, true, false, cond}
+use mathlib.Core.Path.{_≡_, refl, sym, ap, _∙_}
+use mathlib.Core.Bool.{Bool, true, false, not, cond}
 use Prim.Native.Nat.{ℕ, _*_, _/_, _^_, _≤_, _<_}
 use native.Mathlib.Omega.{arith}
 use native.Mathlib.Nat.{mul-div-cancel}
@@ -10,7 +10,7 @@ use lib.Dec.{ltb, lit<}
 use borrow.Author.Tests.{lt-ltb, le-ltb}
 use Rattle.numbers.specs.Parts.{part}
 use Rattle.numbers.specs.Comparing.{same}
-use Rattle.numbers.proofs.Parts.{length-part}
+use Rattle.numbers.proofs.Testing.{failed, passed}
 use Rattle.refusals.specs.declared.Refusal.{Refusal}
 use Rattle.refusals.specs.declared.Refusal.the-variants.{Authenticator, Current, Total}
 use Rattle.racks.specs.declared.Rack.{Rack}
@@ -23,21 +23,26 @@ use Rattle.racks.proofs.StateRule.{good-at}
 use Rattle.rules.specs.Ready.{racksIn, stateIn}
 use Rattle.records.specs.declared.Tested.{Tested}
 use Rattle.records.specs.declared.Tested.the-variants.{Passed, Refused}
-use Rattle.records.specs.Page.{pageSummary}
-use Rattle.records.specs.Record.{stateSize, recordSize, stateBytes, summary, state, Described}
+use Rattle.records.specs.Page.{pageSummary, pageKey}
+use Rattle.records.specs.Record.{stateSize, recordSize, stateBytes, summary, authenticator, state, Described}
+use Rattle.hmac.specs.declared.Prepared.{Prepared}
+use Rattle.hmac.specs.Preparation.{preparedOf}
+use Rattle.bindings.specs.Sealing.{ownAuthenticator}
+use Rattle.bindings.proofs.Seals.{length-state}
 use Rattle.offers.specs.Offers.{lookedAt, Looked}
+use Rattle.offers.proofs.Authenticators.{valid-prepared}
 use Rattle.offers.proofs.Passing.{looked, looked-length, looked-good, bound}
-use Rattle.answers.specs.Design.{Design, Served}
 use Rattle.answers.specs.Hashing.{valid}
-use Rattle.answers.specs.Judging.{judged, afterEarly, afterCurrent, shown, viewVerdict}
+use Rattle.answers.specs.Judging.{judged, afterCurrent, shown, viewVerdict}
 use Rattle.answers.specs.Answers.{Viewed, viewedBy, viewed}
 use Rattle.answers.specs.Edition.{figuresOf, design}
 use Rattle.views.specs.declared.ViewAnswer.the-variants.{Seen, Refused as RefusedView}
 use Rattle.views.specs.Told.{toldView}
 
--- ---- tests 1 to 6
+-- ---- tests 1 to 8
 
-module _ (n v : ℕ) (page l : List ℕ) (rack : ℕ) (t : Tested) (test : t ≡ lookedAt n v (length page) l rack) where
+-- tests 1 to 6 find t
+module _ (n v : ℕ) (page l : List ℕ) (rack : ℕ) {t : Tested} (test : t ≡ lookedAt n v (length page) l rack) where
   viewed-by : viewedBy (design n v) rack (judged t (valid (design n v) page l) (same (summary n l) (pageSummary page)) (shown (design n v) (stateBytes n l) rack))
       ≡ viewed (design n v) page l rack
   unfolding viewed viewVerdict
@@ -46,25 +51,26 @@ module _ (n v : ℕ) (page l : List ℕ) (rack : ℕ) (t : Tested) (test : t ≡
   pub view-early : (r : Refusal) → t ≡ Refused r → toldView (RefusedView r) ≡ viewed (design n v) page l rack
   view-early r found = rw found at viewed-by
 
-  pub view-late : (x : Viewed) → t ≡ Passed
-      → x ≡ viewedBy (design n v) rack (afterEarly (valid (design n v) page l) (same (summary n l) (pageSummary page)) (shown (design n v) (stateBytes n l) rack))
-      → x ≡ viewed (design n v) page l rack
-  view-late x found is = is ∙ (rw found at viewed-by)
+  -- they pass
+  module _ (past : t ≡ Passed) where
+    pub view-looked : Looked n v (length page) l rack
+    view-looked = looked n v (length page) l rack (sym test ∙ past)
 
-  pub view-looked : t ≡ Passed → Looked n v (length page) l rack
-  view-looked found = looked n v (length page) l rack (sym test ∙ found)
+    -- r is what test 7 finds under the page's key
+    module _ {key : Prepared} (prepared : key ≡ preparedOf (pageKey page)) {r : Bool} (seven : r ≡ same (authenticator n l) (ownAuthenticator n key l)) where
+      valid-is : r ≡ valid (design n v) page l
+      valid-is = valid-prepared n v page key prepared l r seven
 
--- ---- tests 7 and 8
+      pub view-forged : not r ≡ true → toldView (RefusedView Authenticator) ≡ viewed (design n v) page l rack
+      view-forged fails = rw (past, failed r _ valid-is fails) at viewed-by
 
-module _ (D : Design) (rack : ℕ) (b c : Bool) (s : Served) where
-  pub view-forged : b ≡ false → toldView (RefusedView Authenticator) ≡ viewedBy D rack (afterEarly b c s)
-  view-forged forged = ap (λ (x : Bool). viewedBy D rack (afterEarly x c s)) (sym forged)
+      -- s is what test 8 finds
+      module _ (ok : not r ≡ false) {s : Bool} (eight : s ≡ same (summary n l) (pageSummary page)) where
+        pub view-stale : not s ≡ true → toldView (RefusedView Current) ≡ viewed (design n v) page l rack
+        view-stale fails = rw (past, passed r _ valid-is ok, failed s _ eight fails) at viewed-by
 
-  pub view-stale : b ≡ true → c ≡ false → toldView (RefusedView Current) ≡ viewedBy D rack (afterEarly b c s)
-  view-stale ok stale = ap₂ (λ (x y : Bool). viewedBy D rack (afterEarly x y s)) (sym ok) (sym stale)
-
-  pub view-current : (x : Viewed) → b ≡ true → c ≡ true → x ≡ viewedBy D rack (afterCurrent s) → x ≡ viewedBy D rack (afterEarly b c s)
-  view-current x ok current is = is ∙ ap₂ (λ (y z : Bool). viewedBy D rack (afterEarly y z s)) (sym ok) (sym current)
+        pub view-current : {x : Viewed} → not s ≡ false → x ≡ viewedBy (design n v) rack (afterCurrent (shown (design n v) (stateBytes n l) rack)) → x ≡ viewed (design n v) page l rack
+        view-current holds is = is ∙ (rw (past, passed r _ valid-is ok, passed s _ eight holds) at viewed-by)
 
 -- ---- test 12 and the figures
 
@@ -99,7 +105,7 @@ looked-ready n v page header l rack described o = (looked-length n v page l rack
 
 module _ (n v page : ℕ) (header l : List ℕ) (rack : ℕ) (st : List ℕ) (described : Described n header) (o : Looked n v page l rack) (is : st ≡ stateBytes n l) where
   state-length : length st ≡ stateSize n
-  state-length = ap length is ∙ length-part 3 (stateSize n) l (omega (arith, looked-length n v page l rack o))
+  state-length = ap length is ∙ length-state n l (omega (arith, looked-length n v page l rack o))
 
   state-racks : racksIn st ≡ n
   state-racks = ap (λ (m : ℕ). m / rackSize) state-length ∙ mul-div-cancel n (lit< tt)

@@ -1,26 +1,22 @@
 // Resume: which of two records is current, the one in RAM first.
 use crate::Which;
-use hmac::prepare;
-use numbers::same;
+use bindings::prepared;
+use offers::current;
 use offers::valid;
 use records::PAGE_SIZE;
 use records::Tested;
-use records::page_key;
-use records::page_summary;
-use records::summary_part;
 use records::test_record;
 ghost use mathlib.Core.Path.{_≡_};
-ghost use lib.ListN.{getD};
 ghost use Rattle.records.specs.Record.{Described};
 ghost use Rattle.answers.specs.Judging.{resumeVerdict};
 ghost use Rattle.answers.specs.Answers.{isGood, resumed};
-ghost use Rattle.answers.specs.Edition.{design};
+ghost use Rattle.offers.specs.Offers.{designOf};
 ghost use Rattle.views.specs.Told.{toldWhich};
 
 // Which of the two is current; the disk one is looked at only where RAM's is not.
 pub fn choose(page: &[u8], ram: &[u8], disk: &[u8], header: &[u8], racks: usize) -> Which
     requires { ⌜ Described racks (now header) ⌝ }
-    ensures { λ r. ⌜ toldWhich r ≡ resumed (design racks (getD (now (header .entry)) 2 0)) (now (page .entry)) (now (ram .entry)) (now (disk .entry)) ⌝ }
+    ensures { λ r. ⌜ toldWhich r ≡ resumed (designOf racks (now (header .entry))) (now (page .entry)) (now (ram .entry)) (now (disk .entry)) ⌝ }
 {
     if is_current(page, ram, header, racks) {
         return Which::Ram;
@@ -34,7 +30,7 @@ pub fn choose(page: &[u8], ram: &[u8], disk: &[u8], header: &[u8], racks: usize)
 // Tests 1, 3, 4, 5 and 7, and the record's summary is the page's.
 fn is_current(page: &[u8], record: &[u8], header: &[u8], racks: usize) -> bool
     requires { ⌜ Described racks (now header) ⌝ }
-    ensures { λ r. ⌜ r ≡ isGood (resumeVerdict (design racks (getD (now (header .entry)) 2 0)) (now (page .entry)) (now («record» .entry))) ⌝ }
+    ensures { λ r. ⌜ r ≡ isGood (resumeVerdict (designOf racks (now (header .entry))) (now (page .entry)) (now («record» .entry))) ⌝ }
 {
     if page.len() != PAGE_SIZE {
         return false;
@@ -42,13 +38,11 @@ fn is_current(page: &[u8], record: &[u8], header: &[u8], racks: usize) -> bool
     match test_record(record, header, racks) {
         Tested::Refused(_) => false,
         Tested::Passed => {
-            let key = prepare(page_key(page));
+            let key = prepared(page);
             if !valid(&key.inner, &key.outer, record, racks) {
                 return false;
             }
-            let own = summary_part(record, racks);
-            let current = page_summary(page);
-            same(own, current)
+            current(page, record, racks)
         }
     }
 }

@@ -1,29 +1,121 @@
--- `perform` meets its contract: the tests before 7 end in an offer, which is refused or handed on. Assumes nothing.
-use Rattle.calls.proofs.Offering.{performed-early, offered-formed, performed-past}
+-- `perform` meets its contract: each test in its place, and past them all what was written. Assumes nothing.
+use mathlib.Core.Path.{refl, sym, _∙_}
+use native.Mathlib.Omega.{arith}
+use lib.ListN.{getD}
+use Rattle.offers.proofs.Passing.{offered-length, offered-request, offered-range, offered-named, bound}
+use Rattle.calls.proofs.CarryingOut.{ready}
+use Rattle.calls.proofs.Answering.{performs, early, asked, forged, stale, barred, done}
 use borrow.Author.Needs.{needs}
 use Rattle.calls.proofs.performing.perform.Statement.{statement}
 use Rattle.calls.proofs.performing.perform.Tie as tie
 
-perform-offered-requires : tie.Need-perform-offered-requires
-perform-offered-requires c κs =
-    let f = c .before .before .before in
-    let o = f .before .before in
-    let p = o .before .before .before .before .before .before in
-    (p .pre, offered-formed _ _ (p .args .page .now) _ _ (p .args .answer .now) _ (o .test-offer .ensures) _ (f .q .given .1))
+prepared-requires : tie.Need-prepared-requires
+prepared-requires c κs =
+    let f = c .before .before in
+    let t = f .before .before in
+    let e = t .before .before .before .before .before .before in
+    let s = e .args in
+    let call = performs (s .racks) (getD (s .header .now) 2 0) (s .page .now) (s .«record» .now) (s .request .now) (s .answer .now) in
+    let o = asked call (t .test-offer .ensures) (f .q .given .1) in
+    o .size
+
+valid-requires : tie.Need-valid-requires
+valid-requires c κs =
+    let f = c .before .before .before .before .before .before in
+    let t = f .before .before in
+    let e = t .before .before .before .before .before .before in
+    let s = e .args in
+    let call = performs (s .racks) (getD (s .header .now) 2 0) (s .page .now) (s .«record» .now) (s .request .now) (s .answer .now) in
+    let o = asked call (t .test-offer .ensures) (f .q .given .1) in
+    (offered-length _ _ _ _ _ _ _ o, bound _ _ (e .pre))
 
 returns : tie.Need-returns
 returns c =
-    let o = c .before .before .before in
-    let s = o .before .before .before .before .before .before .args in
-    performed-early _ _ (s .page .now) _ _ (s .answer .now) _ (o .test-offer .ensures) _ (c .before .r .given .1)
+    let v = c .before in
+    let f = v .before .before .before .before .before .before .before in
+    let t = f .before .before in
+    let e = t .before .before .before .before .before .before in
+    let s = e .args in
+    let call = performs (s .racks) (getD (s .header .now) 2 0) (s .page .now) (s .«record» .now) (s .request .now) (s .answer .now) in
+    forged call (t .test-offer .ensures) (f .q .given .1) (v .before .before .before .before .prepared .ensures) (v .valid .ensures) (c .if1 .taken)
+
+current-requires : tie.Need-current-requires
+current-requires c κs =
+    let f = c .before .before .before .before .before .before .before .before .before in
+    let t = f .before .before in
+    let e = t .before .before .before .before .before .before in
+    let s = e .args in
+    let call = performs (s .racks) (getD (s .header .now) 2 0) (s .page .now) (s .«record» .now) (s .request .now) (s .answer .now) in
+    let o = asked call (t .test-offer .ensures) (f .q .given .1) in
+    (o .size, offered-length _ _ _ _ _ _ _ o)
 
 returns-2 : tie.Need-returns-2
 returns-2 c =
-    let m = c .before .before .before .before in
-    let f = m .before .before .before .before in
-    let o = f .before .before in
-    let s = o .before .before .before .before .before .before .args in
-    performed-past _ _ (s .page .now) _ _ (s .answer .now) _ (o .test-offer .ensures) _ (f .q .given .1) (m .perform-offered .ensures)
+    let i = c .before .before .before in
+    let v = i .before in
+    let f = v .before .before .before .before .before .before .before in
+    let t = f .before .before in
+    let e = t .before .before .before .before .before .before in
+    let s = e .args in
+    let call = performs (s .racks) (getD (s .header .now) 2 0) (s .page .now) (s .«record» .now) (s .request .now) (s .answer .now) in
+    stale call (t .test-offer .ensures) (f .q .given .1) (v .before .before .before .before .prepared .ensures) (v .valid .ensures) (i .if1 .left) (c .before .current .ensures) (c .if2 .taken)
+
+judge-record-requires : tie.Need-judge-record-requires
+judge-record-requires c κs =
+    let f = c .before .before .before .before .before .before .before .before .before .before .before in
+    let t = f .before .before in
+    let e = t .before .before .before .before .before .before in
+    let s = e .args in
+    let call = performs (s .racks) (getD (s .header .now) 2 0) (s .page .now) (s .«record» .now) (s .request .now) (s .answer .now) in
+    let o = asked call (t .test-offer .ensures) (f .q .given .1) in
+    (offered-length _ _ _ _ _ _ _ o, offered-named _ _ _ _ _ _ _ o)
+
+write-performed-requires : tie.Need-write-performed-requires
+write-performed-requires c κs =
+    let j = c .before .before .before .before .before .before .before in
+    let f = j .before .before .before .before .before .before .before .before .before .before .before .before in
+    let t = f .before .before in
+    let e = t .before .before .before .before .before .before in
+    let s = e .args in
+    let call = performs (s .racks) (getD (s .header .now) 2 0) (s .page .now) (s .«record» .now) (s .request .now) (s .answer .now) in
+    let o = asked call (t .test-offer .ensures) (f .q .given .1) in
+    let long = offered-length _ _ _ _ _ _ _ o in
+    (o .size, (offered-request _ _ _ _ _ _ _ o, (e .pre, (o .answer, (long, ready (s .racks) (s .«record» .now) _ (omega (arith, long)) (offered-range _ _ _ _ _ _ _ o) (sym (j .judge-record .ensures) ∙ c .before .before .before .before .before .enum-told .given .1))))))
+
+returns-3 : tie.Need-returns-3
+returns-3 c =
+    let t = c .before .before .before in
+    let s = t .before .before .before .before .before .before .args in
+    early (performs (s .racks) (getD (s .header .now) 2 0) (s .page .now) (s .«record» .now) (s .request .now) (s .answer .now)) (t .test-offer .ensures) _ (c .before .r .given .1)
+
+returns-4 : tie.Need-returns-4
+returns-4 c =
+    let j = c .before .before .before in
+    let h = j .before in
+    let g = h .before in
+    let i = g .before .before in
+    let v = i .before in
+    let f = v .before .before .before .before .before .before .before in
+    let t = f .before .before in
+    let e = t .before .before .before .before .before .before in
+    let s = e .args in
+    let call = performs (s .racks) (getD (s .header .now) 2 0) (s .page .now) (s .«record» .now) (s .request .now) (s .answer .now) in
+    barred call (t .test-offer .ensures) (f .q .given .1) (v .before .before .before .before .prepared .ensures) (v .valid .ensures) (i .if1 .left) (g .current .ensures) (h .if2 .left) (j .judge-record .ensures) _ (c .before .r2 .given .1)
+
+returns-5 : tie.Need-returns-5
+returns-5 c =
+    let j = c .before .before .before .before .before .before .before .before .before .before .before .before in
+    let h = j .before in
+    let g = h .before in
+    let i = g .before .before in
+    let v = i .before in
+    let f = v .before .before .before .before .before .before .before in
+    let t = f .before .before in
+    let e = t .before .before .before .before .before .before in
+    let s = e .args in
+    let call = performs (s .racks) (getD (s .header .now) 2 0) (s .page .now) (s .«record» .now) (s .request .now) (s .answer .now) in
+    let w = c .before .before .before .before in
+    done call (t .test-offer .ensures) (f .q .given .1) (v .before .before .before .before .prepared .ensures) (v .valid .ensures) (i .if1 .left) (g .current .ensures) (h .if2 .left) (j .judge-record .ensures) (c .before .before .before .before .before .before .before .before .before .before .enum-told .given .1) (w .write-performed .ensures .0) refl (w .write-performed .ensures .1 .1) (w .write-performed .ensures .1 .0)
 
 pub perform-spec : {M : Type 1} → statement M
 perform-spec =
@@ -32,8 +124,20 @@ perform-spec =
     (λ c κs. search needs)
     (λ c. search needs)
     (λ c. search needs)
-    perform-offered-requires
+    prepared-requires
+    valid-requires
+    (λ c. search needs)
     returns
+    current-requires
+    (λ c. search needs)
+    returns-2
+    judge-record-requires
     (λ c. search needs)
     (λ c. search needs)
-    returns-2)
+    write-performed-requires
+    returns-3
+    (λ c. search needs)
+    returns-4
+    (λ c. search needs)
+    (λ c. search needs)
+    returns-5)

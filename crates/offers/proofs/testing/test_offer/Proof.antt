@@ -13,38 +13,35 @@ returns c =
 
 returns-2 : tie.Need-returns-2
 returns-2 c =
-    let s = c .before .before .before .before .before .args in
-    offer-2 (s .racks) (getD (s .header .now) 2 0) (s .page) (s .room) (s .«record» .now) (s .request .now) (c .before .if1 .left) (omega (arith, c .if2 .taken))
+    let s = c .before .before .before .before .before .before .args in
+    offer-2 (s .racks) (getD (s .header .now) 2 0) (s .page) (s .room) (s .«record» .now) (s .request .now) (c .before .before .if1 .left) (omega (arith, c .if2 .taken))
 
 returns-3 : tie.Need-returns-3
 returns-3 c =
     let o = c .before .before .before in
-    let s = o .before .before .before .before .before .before .args in
-    offer-5 (s .racks) (getD (s .header .now) 2 0) (s .page) (s .room) (s .«record» .now) (s .request .now) (o .before .before .if1 .left) (omega (arith, o .before .if2 .left)) _ _ (o .test-record .ensures) (c .before .r .given .1)
+    let s = o .before .before .before .before .before .before .before .args in
+    offer-5 (s .racks) (getD (s .header .now) 2 0) (s .page) (s .room) (s .«record» .now) (s .request .now) (o .before .before .before .if1 .left) (omega (arith, o .before .if2 .left)) _ _ (o .test-record .ensures) (c .before .r .given .1)
 
 returns-4 : tie.Need-returns-4
 returns-4 c =
     let m = c .before .before .before in
     let o = m .before .before .before in
-    let s = o .before .before .before .before .before .before .args in
-    offer-formed (s .racks) (getD (s .header .now) 2 0) (s .page) (s .room) (s .«record» .now) (s .request .now) (o .before .before .if1 .left) (omega (arith, o .before .if2 .left)) _ _ (o .test-record .ensures) (m .before .enum-told .given .1) (m .read-request .ensures) _ (c .before .q .given .1)
+    let s = o .before .before .before .before .before .before .before .args in
+    offer-formed (s .racks) (getD (s .header .now) 2 0) (s .page) (s .room) (s .«record» .now) (s .request .now) (o .before .before .before .if1 .left) (omega (arith, o .before .if2 .left)) _ _ (o .test-record .ensures) (m .before .enum-told .given .1) (m .read-request .ensures) _ (c .before .q .given .1)
 
 returns-5 : tie.Need-returns-5
 returns-5 c =
     let m = c .before .before in
     let o = m .before .before .before in
-    let s = o .before .before .before .before .before .before .args in
-    offer-6 (s .racks) (getD (s .header .now) 2 0) (s .page) (s .room) (s .«record» .now) (s .request .now) (o .before .before .if1 .left) (omega (arith, o .before .if2 .left)) _ _ (o .test-record .ensures) (m .before .enum-told .given .1) (m .read-request .ensures) (c .enum-told2 .given .1)
+    let s = o .before .before .before .before .before .before .before .args in
+    offer-6 (s .racks) (getD (s .header .now) 2 0) (s .page) (s .room) (s .«record» .now) (s .request .now) (o .before .before .before .if1 .left) (omega (arith, o .before .if2 .left)) _ _ (o .test-record .ensures) (m .before .enum-told .given .1) (m .read-request .ensures) (c .enum-told2 .given .1)
 
 pub test-offer-spec : {M : Type 1} → statement M
 test-offer-spec =
     tie.close
     (tie.spec
     returns
-    (λ c. search needs)
-    (λ c. search needs)
-    (λ c. search needs)
-    (λ c. search needs)
+    (λ c κs. search needs)
     returns-2
     (λ c κs. search needs)
     (λ c. search needs)

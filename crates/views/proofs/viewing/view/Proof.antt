@@ -1,26 +1,91 @@
--- What tests 1 to 6 refuse is the answer, and else what the rest finds. Assumes nothing.
-use Rattle.views.proofs.Shown.{view-early, view-late, view-looked}
+-- Each test in its place, and past them all the figures of the state. Assumes nothing.
+use lib.ListN.{getD}
+use Rattle.views.proofs.Shown.{view-early, view-looked, view-forged, view-stale, view-current, looked-ready, state-ready, state-viewed}
 use borrow.Author.Needs.{needs}
 use Rattle.views.proofs.viewing.view.Statement.{statement}
 use Rattle.views.proofs.viewing.view.Tie as tie
 
-view-offered-requires : tie.Need-view-offered-requires
-view-offered-requires c κs =
-    let o = c .before .before in
-    let s = o .before .before .before .before in
-    (s .pre, view-looked (s .args .racks) _ (s .args .page .now) (s .args .«record» .now) (s .args .rack) _ (o .test-look .ensures) (c .enum-told .given .1))
+prepared-requires : tie.Need-prepared-requires
+prepared-requires c κs =
+    let f = c in
+    let t = f .before .before in
+    let e = t .before .before .before .before in
+    let s = e .args in
+    let o = view-looked (s .racks) (getD (s .header .now) 2 0) (s .page .now) (s .«record» .now) (s .rack) (t .test-look .ensures) (f .enum-told .given .1) in
+    o .size
+
+valid-requires : tie.Need-valid-requires
+valid-requires c κs =
+    let f = c .before .before .before .before in
+    let t = f .before .before in
+    let e = t .before .before .before .before in
+    let s = e .args in
+    let o = view-looked (s .racks) (getD (s .header .now) 2 0) (s .page .now) (s .«record» .now) (s .rack) (t .test-look .ensures) (f .enum-told .given .1) in
+    looked-ready _ _ _ _ _ _ (e .pre) o
 
 returns : tie.Need-returns
 returns c =
-    let o = c .before .before .before in
-    let s = o .before .before .before .before .args in
-    view-early (s .racks) _ (s .page .now) (s .«record» .now) (s .rack) _ (o .test-look .ensures) _ (c .before .r .given .1)
+    let v = c .before in
+    let f = v .before .before .before .before .before in
+    let t = f .before .before in
+    let e = t .before .before .before .before in
+    let s = e .args in
+    view-forged (s .racks) (getD (s .header .now) 2 0) (s .page .now) (s .«record» .now) (s .rack) (t .test-look .ensures) (f .enum-told .given .1) (v .before .before .before .before .prepared .ensures) (v .valid .ensures) (c .if1 .taken)
+
+current-requires : tie.Need-current-requires
+current-requires c κs =
+    let f = c .before .before .before .before .before .before in
+    let t = f .before .before in
+    let e = t .before .before .before .before in
+    let s = e .args in
+    let o = view-looked (s .racks) (getD (s .header .now) 2 0) (s .page .now) (s .«record» .now) (s .rack) (t .test-look .ensures) (f .enum-told .given .1) in
+    (o .size, looked-ready _ _ _ _ _ _ (e .pre) o .0)
 
 returns-2 : tie.Need-returns-2
 returns-2 c =
-    let o = c .before .before .before in
-    let s = o .before .before .before .before .args in
-    view-late (s .racks) _ (s .page .now) (s .«record» .now) (s .rack) _ (o .test-look .ensures) _ (c .before .enum-told .given .1) (c .view-offered .ensures)
+    let i = c .before .before in
+    let v = i .before in
+    let f = v .before .before .before .before .before in
+    let t = f .before .before in
+    let e = t .before .before .before .before in
+    let s = e .args in
+    view-stale (s .racks) (getD (s .header .now) 2 0) (s .page .now) (s .«record» .now) (s .rack) (t .test-look .ensures) (f .enum-told .given .1) (v .before .before .before .before .prepared .ensures) (v .valid .ensures) (i .if1 .left) (c .before .current .ensures) (c .if2 .taken)
+
+state-part-requires : tie.Need-state-part-requires
+state-part-requires c κs =
+    let f = c .before .before .before .before .before .before .before .before in
+    let t = f .before .before in
+    let e = t .before .before .before .before in
+    let s = e .args in
+    let o = view-looked (s .racks) (getD (s .header .now) 2 0) (s .page .now) (s .«record» .now) (s .rack) (t .test-look .ensures) (f .enum-told .given .1) in
+    looked-ready _ _ _ _ _ _ (e .pre) o .0
+
+figures-requires : tie.Need-figures-requires
+figures-requires c κs =
+    let f = c .before .before .before .before .before .before .before .before .before in
+    let t = f .before .before in
+    let e = t .before .before .before .before in
+    let s = e .args in
+    let o = view-looked (s .racks) (getD (s .header .now) 2 0) (s .page .now) (s .«record» .now) (s .rack) (t .test-look .ensures) (f .enum-told .given .1) in
+    state-ready _ _ _ _ _ _ _ (e .pre) o (c .state-part .ensures)
+
+returns-3 : tie.Need-returns-3
+returns-3 c =
+    let t = c .before .before .before in
+    let s = t .before .before .before .before .args in
+    view-early (s .racks) (getD (s .header .now) 2 0) (s .page .now) (s .«record» .now) (s .rack) (t .test-look .ensures) _ (c .before .r .given .1)
+
+returns-4 : tie.Need-returns-4
+returns-4 c =
+    let h = c .before .before in
+    let i = h .before .before in
+    let v = i .before in
+    let f = v .before .before .before .before .before in
+    let t = f .before .before in
+    let e = t .before .before .before .before in
+    let s = e .args in
+    let o = view-looked (s .racks) (getD (s .header .now) 2 0) (s .page .now) (s .«record» .now) (s .rack) (t .test-look .ensures) (f .enum-told .given .1) in
+    view-current (s .racks) (getD (s .header .now) 2 0) (s .page .now) (s .«record» .now) (s .rack) (t .test-look .ensures) (f .enum-told .given .1) (v .before .before .before .before .prepared .ensures) (v .valid .ensures) (i .if1 .left) (h .before .current .ensures) (h .if2 .left) (state-viewed _ _ _ _ _ _ _ (e .pre) o (c .before .state-part .ensures) _ (c .figures .ensures))
 
 pub view-spec : {M : Type 1} → statement M
 view-spec =
@@ -29,6 +94,12 @@ view-spec =
     (λ c κs. search needs)
     (λ c. search needs)
     (λ c. search needs)
-    view-offered-requires
+    prepared-requires
+    valid-requires
     returns
-    returns-2)
+    current-requires
+    returns-2
+    state-part-requires
+    figures-requires
+    returns-3
+    returns-4)

@@ -1,0 +1,43 @@
+-- `move_page` copies the summary from the front of the answer. Assumes nothing.
+use mathlib.Core.Path.{sym, ap, _∙_}
+use mathlib.Core.List.{List}
+use Prim.Native.Nat.{ℕ}
+use lib.ListN.{length}
+use lib.Seq.{length-take-le}
+use native.Mathlib.Omega.{arith}
+use Rattle.numbers.specs.Parts.{over}
+use Rattle.bindings.proofs.Seals.{length-summary, front-summary}
+use borrow.Author.Needs.{needs}
+use Rattle.calls.proofs.performing.move_page.Statement.{statement}
+use Rattle.calls.proofs.performing.move_page.Tie as tie
+
+slice-aggregate-summary-part : tie.Need-slice-aggregate-summary-part
+slice-aggregate-summary-part c = sym (length-take-le _ _ (omega arith))
+
+summary-part-requires : tie.Need-summary-part-requires
+summary-part-requires c κs = length-take-le _ _ (omega arith) ∙ c .before .before .record-size .ensures
+
+copy-requires : tie.Need-copy-requires
+copy-requires c κs =
+    let m = c .before .before .before in
+    let o = m .before .before .before in
+    let is = c .summary-part .ensures ∙ front-summary (o .args .racks) (o .args .answer .now) (o .pre .1 .0) _ (m .record-size .ensures) in
+    omega (arith, ap length is, length-summary (o .args .racks) (o .args .answer .now) (o .pre .1 .0))
+
+returns : tie.Need-returns
+returns c =
+    let m = c .before .before .before .before .before .before in
+    let o = m .before .before .before in
+    let is = c .before .before .before .summary-part .ensures ∙ front-summary (o .args .racks) (o .args .answer .now) (o .pre .1 .0) _ (m .record-size .ensures) in
+    c .before .before .copy .ensures ∙ ap (λ (s : List ℕ). over 0 s (o .args .page .now)) is
+
+pub move-page-spec : {M : Type 1} → statement M
+move-page-spec =
+    tie.close
+    (tie.spec
+    (λ c κs. search needs)
+    slice-aggregate-summary-part
+    summary-part-requires
+    copy-requires
+    (λ c. search needs)
+    returns)

@@ -1,2 +1,0 @@
--- The bytes of the next record's state.
-pub mod Next

@@ -9,8 +9,11 @@ pub record Lent : Type 0 where
   pub at : ℕ × ℕ
   pub bytes : List ℕ
 
+abbrev pub lent : ℕ × ℕ → List ℕ → Lent
+lent at bytes = record { at = at; bytes = bytes }
+
 -- the RAM one, the disk one, or the empty part at the start of the RAM one
 abbrev pub handedBack : Resumed → Lent → Lent → Lent
 handedBack ram inRam onDisk = inRam
 handedBack disk inRam onDisk = onDisk
-handedBack neither inRam onDisk = record { at = inRam .at; bytes = [] }
+handedBack neither inRam onDisk = lent (inRam .at) []

@@ -9,8 +9,11 @@ pub record Outcome : Type 0 where
   pub page : List ℕ
   pub answer : List ℕ
 
+abbrev pub outcome : ℕ → List ℕ → List ℕ → Outcome
+outcome number page answer = record { number = number; page = page; answer = answer }
+
 abbrev pub openOutcome : Opened → Outcome
-openOutcome o = record { number = o .number; page = o .page; answer = o .answer }
+openOutcome o = outcome (o .number) (o .page) (o .answer)
 
 abbrev pub performOutcome : Performed → Outcome
-performOutcome p = record { number = p .number; page = p .page; answer = p .answer }
+performOutcome p = outcome (p .number) (p .page) (p .answer)

@@ -14,11 +14,11 @@ use views::choose;
 ghost use mathlib.Core.Path.{_≡_};
 ghost use Rattle.answers.specs.Answers.{opened, performed, repeated, viewed, resumed, resumedNumber};
 ghost use Rattle.answers.specs.Edition.{thisEdition};
-ghost use Rattle.keeper.specs.Numbers.{Outcome, openOutcome, performOutcome};
+ghost use Rattle.keeper.specs.Numbers.{outcome, openOutcome, performOutcome};
 
 #[no_mangle]
 pub extern "C" fn keeper_open(page: &[u8], answer: &mut [u8]) -> u32
-    ensures { λ r. ⌜ _≡_ {A = Outcome} (record { number = r; page = now (page .entry); answer = now (answer .exit) }) (openOutcome (opened thisEdition (now (page .entry)) (now (answer .entry)))) ⌝ }
+    ensures { λ r. ⌜ outcome r (now (page .entry)) (now (answer .exit)) ≡ openOutcome (opened thisEdition (now (page .entry)) (now (answer .entry))) ⌝ }
 {
     match open(page, answer) {
         OpenAnswer::Opened => 0,
@@ -33,7 +33,7 @@ pub extern "C" fn keeper_perform(
     request: &[u8],
     answer: &mut [u8],
 ) -> u32
-    ensures { λ r. ⌜ _≡_ {A = Outcome} (record { number = r; page = now (page .exit); answer = now (answer .exit) }) (performOutcome (performed thisEdition (now (page .entry)) (now («record» .entry)) (now (request .entry)) (now (answer .entry)))) ⌝ }
+    ensures { λ r. ⌜ outcome r (now (page .exit)) (now (answer .exit)) ≡ performOutcome (performed thisEdition (now (page .entry)) (now («record» .entry)) (now (request .entry)) (now (answer .entry))) ⌝ }
 {
     match perform(page, record, request, answer) {
         PerformAnswer::Done { stored: _ } => 0,
@@ -48,7 +48,7 @@ pub extern "C" fn keeper_repeat(
     request: &[u8],
     answer: &mut [u8],
 ) -> u32
-    ensures { λ r. ⌜ _≡_ {A = Outcome} (record { number = r; page = now (page .entry); answer = now (answer .exit) }) (performOutcome (repeated thisEdition (now (page .entry)) (now («record» .entry)) (now (request .entry)) (now (answer .entry)))) ⌝ }
+    ensures { λ r. ⌜ outcome r (now (page .entry)) (now (answer .exit)) ≡ performOutcome (repeated thisEdition (now (page .entry)) (now («record» .entry)) (now (request .entry)) (now (answer .entry))) ⌝ }
 {
     match repeat(page, record, request, answer) {
         PerformAnswer::Done { stored: _ } => 0,

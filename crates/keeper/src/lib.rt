@@ -14,7 +14,7 @@ ghost use Rattle.answers.specs.Edition.{thisEdition};
 ghost use Rattle.opens.specs.Told.{toldOpen};
 ghost use Rattle.calls.specs.Told.{told};
 ghost use Rattle.views.specs.Told.{toldView};
-ghost use Rattle.keeper.specs.Lent.{Lent, handedBack};
+ghost use Rattle.keeper.specs.Lent.{lent, handedBack};
 
 // Open: the first record, with summary zero and its authenticator; the page stays as it is.
 pub fn open(page: &[u8], answer: &mut [u8]) -> OpenAnswer
@@ -47,7 +47,7 @@ pub fn view(page: &[u8], record: &[u8], rack: u32) -> ViewAnswer
 // Resume: the current one of two records, itself, as a part of the caller's own buffer: the one in RAM if both are, and
 // the empty part at the start of RAM's if neither is.
 pub fn resume<'a>(page: &[u8], ram: &'a [u8], disk: &'a [u8]) -> &'a [u8]
-    ensures { λ r. ⌜ _≡_ {A = Lent} (record { at = r .ptr; bytes = now r }) (handedBack (resumed thisEdition (now (page .entry)) (now (ram .entry)) (now (disk .entry))) (record { at = ram .entry .ptr; bytes = now (ram .entry) }) (record { at = disk .entry .ptr; bytes = now (disk .entry) })) ⌝ }
+    ensures { λ r. ⌜ lent (r .ptr) (now r) ≡ handedBack (resumed thisEdition (now (page .entry)) (now (ram .entry)) (now (disk .entry))) (lent (ram .entry .ptr) (now (ram .entry))) (lent (disk .entry .ptr) (now (disk .entry))) ⌝ }
 {
     match choose(page, ram, disk, b"\x01\xC1\x01", RACKS) {
         Which::Ram => ram,

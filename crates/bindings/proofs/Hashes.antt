@@ -1,4 +1,4 @@
--- Every hash takes 32 bytes, and a prepared key gives the authenticator. Assumes nothing.
+-- A summary and an authenticator take 32 bytes, and a prepared key gives the authenticator. Assumes nothing.
 use mathlib.Core.Path.{_≡_}
 use Prim.Native.Nat.{ℕ}
 use mathlib.Core.List.{List, _++_}
@@ -9,19 +9,11 @@ use Rattle.hmac.specs.Hmac.{hmac}
 use Rattle.hmac.specs.declared.Prepared.{Prepared}
 use Rattle.hmac.specs.Preparation.{preparedOf, macOf}
 use Rattle.hmac.proofs.Macs.{mac-prepared}
-use Rattle.bindings.specs.Hashed.{stateMessage, summaryMessage, bindingMessage, stateHash, nextSummary, binding, authenticatorOf}
-
-pub length-stateHash : (state : List ℕ) → length (stateHash state) ≡ 32
-unfolding stateHash
-length-stateHash state = length-sha256 (stateMessage state)
+use Rattle.bindings.specs.Hashed.{summaryMessage, nextSummary, authenticatorOf}
 
 pub length-nextSummary : (summary request : List ℕ) → length (nextSummary summary request) ≡ 32
 unfolding nextSummary
 length-nextSummary summary request = length-sha256 (summaryMessage summary request)
-
-pub length-binding : (summary hash : List ℕ) → length (binding summary hash) ≡ 32
-unfolding binding
-length-binding summary hash = length-sha256 (bindingMessage summary hash)
 
 pub length-mac : (key : Prepared) (text : List ℕ) → length (macOf key text) ≡ 32
 unfolding macOf sha256After

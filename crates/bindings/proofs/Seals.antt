@@ -1,17 +1,17 @@
 -- A header, a state and a summary laid end to end, and the authenticator laid behind them, make the record that binds the state to the
 -- summary. The idea: what was laid is cut out again by its widths. Assumes nothing.
-use mathlib.Core.Path.{_≡_, refl, sym, ap, ap₂, _∙_}
+use mathlib.Core.Path.{_≡_, sym, ap, _∙_}
 use Prim.Native.Nat.{ℕ, _+_, _-_, _≤_}
 use native.Mathlib.Nat.{zero-add}
 use native.Mathlib.Omega.{arith}
 use mathlib.Core.List.{List, [], _∷_, _++_, append-assoc, append-nil, map}
-use lib.ListN.{length, take, getD, length-append}
+use lib.ListN.{length, take, getD}
 use Rattle.numbers.specs.Parts.{part, over, size, cutAt, join}
 use Rattle.numbers.proofs.Parts.{length-part, length-over, part-part, part-over, part-before-over, over-over}
 use Rattle.numbers.proofs.Layouts.{length-join, cutAt-join}
 use Rattle.numbers.proofs.Laying.{layAt-join}
 use Rattle.records.specs.Page.{hashSize, pageSize, pageSummary, pageKey}
-use Rattle.records.specs.Record.{stateSize, recordSize, stateBytes, summary, header, recordOf}
+use Rattle.records.specs.Record.{stateSize, recordSize, stateBytes, summary, header}
 use Rattle.records.proofs.Headers.{length-header}
 use Rattle.records.proofs.RecordBytes.{record-begins}
 use Rattle.hmac.specs.declared.Prepared.{Prepared}

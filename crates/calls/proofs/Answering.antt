@@ -2,8 +2,7 @@
 -- The idea: what a test found is put in the place of the test, and past them all stands what was written. Assumes nothing.
 use mathlib.Core.Path.{_≡_, refl, sym, ap, ap₂, _∙_}
 use mathlib.Core.Bool.{Bool, true, false, not}
-use Prim.Native.Nat.{ℕ, _≤_}
-use native.Mathlib.Omega.{arith}
+use Prim.Native.Nat.{ℕ}
 use mathlib.Core.List.{List}
 use lib.ListN.{length}
 use Rattle.numbers.specs.Parts.{over}
@@ -28,7 +27,7 @@ use Rattle.rules.specs.Rules.{verdict, carryOut}
 use Rattle.rules.specs.Replay.{byVerdict, book}
 use Rattle.rules.proofs.Changes.{length-carryOut}
 use Rattle.rules.proofs.Kept.{good-carryOut}
-use Rattle.records.specs.declared.Tested.the-variants.{Passed, Refused as RefusedTest}
+use Rattle.records.specs.declared.Tested.the-variants.{Passed}
 use Rattle.records.specs.Page.{pageSummary, pageKey}
 use Rattle.records.specs.Record.{stateBytes, summary, authenticator, state}
 use Rattle.hmac.specs.declared.Prepared.{Prepared}

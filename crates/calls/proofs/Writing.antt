@@ -1,6 +1,6 @@
 -- The next record, as the writing makes it: the record's state is laid, carried on where it lies, and sealed.
 -- The idea: no request changes the number of racks, so every piece lies where the layout says. Assumes nothing.
-use mathlib.Core.Path.{_≡_, refl, sym, ap, _∙_}
+use mathlib.Core.Path.{_≡_, sym, ap, _∙_}
 use Prim.Native.Nat.{ℕ, _+_, _-_, _*_, _≤_}
 use native.Mathlib.Nat.{zero-add, add-zero}
 use native.Mathlib.Omega.{arith}
@@ -11,7 +11,7 @@ use Rattle.numbers.proofs.Parts.{length-over}
 use Rattle.numbers.proofs.Layouts.{length-join}
 use Rattle.numbers.proofs.Lending.{lent, returned}
 use Rattle.numbers.proofs.Laying.{over-all, over-behind, over-front}
-use Rattle.racks.specs.Racks.{State, rackAt}
+use Rattle.racks.specs.Racks.{rackAt}
 use Rattle.racks.specs.Layout.{rackSize, stateOf, bytesOfState}
 use Rattle.racks.proofs.StatePlaces.{length-stateOf}
 use Rattle.racks.proofs.StateBytes.{length-bytesOfState}
@@ -24,12 +24,14 @@ use Rattle.records.specs.Page.{hashSize}
 use Rattle.records.specs.Record.{stateSize, recordSize, stateBytes, summary, state, header, Described}
 use Rattle.records.proofs.Headers.{length-header, length-described}
 use Rattle.hmac.specs.declared.Prepared.{Prepared}
-use Rattle.hmac.specs.Preparation.{macOf}
-use Rattle.bindings.specs.Hashed.{bindingOf}
-use Rattle.bindings.specs.Sealing.{sealed, sealedRecord}
+use Rattle.bindings.specs.Sealing.{sealed}
 use Rattle.bindings.proofs.Seals.{length-state, laid-state, sealed-laid, sealed-summary}
 use Rattle.calls.specs.Next.{nextState, nextBytes, nextStored, nextRecord}
 use Rattle.calls.proofs.CarryingOut.{state-in}
+
+-- what was laid at the front, by another name
+pub laid-as : (a b x y : List ℕ) → y ≡ over 0 a x → a ≡ b → y ≡ over 0 b x
+laid-as a b x y laid is = rw is at laid
 
 -- laid at the front
 front : (p x : List ℕ) → over 0 p x ≡ p ++ drop (length p) x

@@ -1,5 +1,5 @@
 -- What open answers, by what its three tests say, and the record that it writes. Assumes nothing.
-use mathlib.Core.Path.{_≡_, refl, sym, ap, _∙_}
+use mathlib.Core.Path.{_≡_, refl, ap, _∙_}
 use mathlib.Core.Bool.{Bool, true, false, not}
 use Prim.Native.Nat.{ℕ, _*_, _≤_, _<_}
 use mathlib.Core.List.{List, [], _∷_}
@@ -25,7 +25,7 @@ use Rattle.bindings.specs.Sealing.{sealed}
 use Rattle.bindings.proofs.Seals.{length-pageSummary, sealed-laid}
 use Rattle.answers.specs.Hashing.{boundRecord}
 use Rattle.answers.specs.Judging.{unless, andThen}
-use Rattle.answers.specs.Answers.{Opened, openedBy, openTests, opened}
+use Rattle.answers.specs.Answers.{openedBy, openTests, opened}
 use Rattle.answers.specs.Edition.{thisEdition}
 use Rattle.offers.proofs.Authenticators.{sealed-bound}
 use Rattle.opens.specs.declared.OpenAnswer.the-variants.{Opened as Accepted, Refused}

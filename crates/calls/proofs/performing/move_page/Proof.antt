@@ -1,12 +1,10 @@
 -- `move_page` copies the summary from the front of the answer. Assumes nothing.
 use mathlib.Core.Path.{sym, ap, _∙_}
-use mathlib.Core.List.{List}
-use Prim.Native.Nat.{ℕ}
 use lib.ListN.{length}
 use lib.Seq.{length-take-le}
 use native.Mathlib.Omega.{arith}
-use Rattle.numbers.specs.Parts.{over}
 use Rattle.bindings.proofs.Seals.{length-summary, front-summary}
+use Rattle.calls.proofs.Writing.{laid-as}
 use borrow.Author.Needs.{needs}
 use Rattle.calls.proofs.performing.move_page.Statement.{statement}
 use Rattle.calls.proofs.performing.move_page.Tie as tie
@@ -29,7 +27,7 @@ returns c =
     let m = c .before .before .before .before .before .before in
     let o = m .before .before .before in
     let is = c .before .before .before .summary-part .ensures ∙ front-summary (o .args .racks) (o .args .answer .now) (o .pre .1 .0) _ (m .record-size .ensures) in
-    c .before .before .copy .ensures ∙ ap (λ (s : List ℕ). over 0 s (o .args .page .now)) is
+    laid-as _ _ (o .args .page .now) _ (c .before .before .copy .ensures) is
 
 pub move-page-spec : {M : Type 1} → statement M
 move-page-spec =

@@ -1,11 +1,7 @@
 -- `write_performed` lays the record's pieces, carries the request out there, seals what stands there, and moves the page. Assumes nothing.
-use mathlib.Core.Path.{ap, _∙_}
-use mathlib.Core.List.{List}
-use Prim.Native.Nat.{ℕ}
-use Rattle.numbers.specs.Parts.{over}
 use Rattle.bindings.proofs.Hashes.{length-nextSummary}
 use Rattle.calls.specs.Next.{movedOn}
-use Rattle.calls.proofs.Writing.{ready-there, written}
+use Rattle.calls.proofs.Writing.{laid-as, ready-there, written}
 use borrow.Author.Needs.{needs}
 use Rattle.calls.proofs.performing.write_performed.Statement.{statement}
 use Rattle.calls.proofs.performing.write_performed.Tie as tie
@@ -27,7 +23,7 @@ returns c =
     let s = o .args in
     let p = o .pre .1 .1 in
     let done = written (s .racks) (s .header .now) (s .«record» .now) (movedOn (s .racks) (s .«record» .now) (s .request .now)) (s .answer .now) (s .q) (p .0) (p .1 .0) (p .1 .1 .0) (length-nextSummary _ _) _ (l .lay-performed .ensures) _ _ _ _ (k .carry .ensures) (e .seal .ensures) in
-    (c .before .before .move-page .ensures ∙ ap (λ (m : List ℕ). over 0 m (s .page .now)) (done .1 .1), (done .0, done .1 .0))
+    (laid-as _ _ (s .page .now) _ (c .before .before .move-page .ensures) (done .1 .1), (done .0, done .1 .0))
 
 pub write-performed-spec : {M : Type 1} → statement M
 write-performed-spec =

@@ -23,8 +23,7 @@ returns-2 c =
     let v = c .before in
     let f = v .before .before .before .before .before in
     let t = f .before .before in
-    let e = t .before .before .before .before .before in
-    let s = e .args in
+    let s = t .before .before .before .before .before .args in
     not-valid (s .racks) (getD (s .header .now) 2 0) (s .page .now) (s .«record» .now) (t .before .if1 .left) _ (t .test-record .ensures) (f .enum-told2 .given .1) (v .before .before .before .before .prepared .ensures) (v .valid .ensures) (c .if2 .taken)
 
 current-requires : tie.Need-current-requires
@@ -46,8 +45,7 @@ returns-4 c =
     let v = c .before .before in
     let f = v .before .before .before .before .before in
     let t = f .before .before in
-    let e = t .before .before .before .before .before in
-    let s = e .args in
+    let s = t .before .before .before .before .before .args in
     is-current (s .racks) (getD (s .header .now) 2 0) (s .page .now) (s .«record» .now) (t .before .if1 .left) _ (t .test-record .ensures) (f .enum-told2 .given .1) (v .before .before .before .before .prepared .ensures) (v .valid .ensures) (c .before .if2 .left) _ (c .current .ensures)
 
 pub is-current-spec : {M : Type 1} → statement M

@@ -9,8 +9,7 @@ prepared-requires : tie.Need-prepared-requires
 prepared-requires c κs =
     let f = c in
     let t = f .before .before in
-    let e = t .before .before .before .before in
-    let s = e .args in
+    let s = t .before .before .before .before .args in
     let o = view-looked (s .racks) (getD (s .header .now) 2 0) (s .page .now) (s .«record» .now) (s .rack) (t .test-look .ensures) (f .enum-told .given .1) in
     o .size
 
@@ -28,8 +27,7 @@ returns c =
     let v = c .before in
     let f = v .before .before .before .before .before in
     let t = f .before .before in
-    let e = t .before .before .before .before in
-    let s = e .args in
+    let s = t .before .before .before .before .args in
     view-forged (s .racks) (getD (s .header .now) 2 0) (s .page .now) (s .«record» .now) (s .rack) (t .test-look .ensures) (f .enum-told .given .1) (v .before .before .before .before .prepared .ensures) (v .valid .ensures) (c .if1 .taken)
 
 current-requires : tie.Need-current-requires
@@ -47,8 +45,7 @@ returns-2 c =
     let v = i .before in
     let f = v .before .before .before .before .before in
     let t = f .before .before in
-    let e = t .before .before .before .before in
-    let s = e .args in
+    let s = t .before .before .before .before .args in
     view-stale (s .racks) (getD (s .header .now) 2 0) (s .page .now) (s .«record» .now) (s .rack) (t .test-look .ensures) (f .enum-told .given .1) (v .before .before .before .before .prepared .ensures) (v .valid .ensures) (i .if1 .left) (c .before .current .ensures) (c .if2 .taken)
 
 state-part-requires : tie.Need-state-part-requires

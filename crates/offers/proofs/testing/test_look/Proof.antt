@@ -1,12 +1,15 @@
 -- The tests of view in the order of their numbers. Assumes nothing.
 use native.Mathlib.Omega.{arith}
+use lib.ListN.{getD}
 use Rattle.offers.proofs.Cases.{look-1, look-5, look-6, look-passed}
 use borrow.Author.Needs.{needs}
 use Rattle.offers.proofs.testing.test_look.Statement.{statement}
 use Rattle.offers.proofs.testing.test_look.Tie as tie
 
 returns : tie.Need-returns
-returns c = look-1 _ _ _ _ _ (c .if1 .taken)
+returns c =
+    let s = c .before .before .before .args in
+    look-1 (s .racks) (getD (s .header .now) 2 0) (s .page) (s .«record» .now) (s .rack) (c .if1 .taken)
 
 returns-2 : tie.Need-returns-2
 returns-2 c =

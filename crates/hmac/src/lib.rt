@@ -1,5 +1,5 @@
-// HMAC-SHA-256 (FIPS 198-1) of a message that lies in two pieces. The pads are worked out first, as the two
-// hash values that they lead to, so the message is never copied and a key can serve several messages.
+// HMAC-SHA-256 (FIPS 198-1) of a message that lies in two pieces. Each pad is worked out as the hash value that its block
+// leads to, so that the message is never copied; `prepare` does both ahead, and the key then serves several messages.
 use sha256::absorb;
 use sha256::initial;
 use sha256::sha256;

@@ -9,7 +9,7 @@ use lib.ListN.{length}
 use Rattle.bindings.specs.Hashed.{summaryTag, bindingTag, summaryMessage}
 use Rattle.records.specs.Page.{hashSize}
 use Rattle.answers.specs.Design.{Design}
-use Rattle.answers.specs.Hashing.{stateHash, nextSummary, boundMessage, binding}
+use Rattle.answers.specs.Hashing.{stateHash, nextSummary, boundMessage, bindingOf}
 
 -- two lists with fronts of one length
 fronts : (a b c d : List ℕ) → length a ≡ length b → a ++ c ≡ b ++ d → (a ≡ b) × (c ≡ d)
@@ -31,7 +31,7 @@ parts tag s t a b p q e =
 module _ (D : Design) (s t : List ℕ) (p : length s ≡ hashSize) (q : length t ≡ hashSize) where
   -- a binding is of one summary and one state hash
   pub bindings-apart : (a b : List ℕ) → (D .hash (boundMessage D s a) ≡ D .hash (boundMessage D t b) → boundMessage D s a ≡ boundMessage D t b)
-      → binding D s a ≡ binding D t b → (s ≡ t) × (stateHash D a ≡ stateHash D b)
+      → bindingOf D s a ≡ bindingOf D t b → (s ≡ t) × (stateHash D a ≡ stateHash D b)
   bindings-apart a b tells e = parts bindingTag s t (stateHash D a) (stateHash D b) p q (tells e)
 
   -- a next summary is of one summary and one request

@@ -17,20 +17,20 @@ use Rattle.records.specs.Tests.{tested}
 use Rattle.records.proofs.RecordBytes.{length-record, record-state, record-summary, record-authenticator, record-size, record-version}
 use Rattle.records.proofs.TestCases.{all-passed}
 use Rattle.answers.specs.Design.{Design}
-use Rattle.answers.specs.Hashing.{binding, valid, boundRecord}
+use Rattle.answers.specs.Hashing.{bindingOf, valid, boundRecord}
 use Rattle.answers.specs.Edition.{design}
 use Rattle.answers.specs.Written.{Reads}
 
 -- over any design: what a record reads as makes it valid
 pub reads-valid : (D : Design) (page l state summary : List ℕ) → D .stateBytes l ≡ state → D .summary l ≡ summary
-    → D .authenticator l ≡ D .mac page (binding D summary state) → valid D page l ≡ true
+    → D .authenticator l ≡ D .mac page (bindingOf D summary state) → valid D page l ≡ true
 reads-valid D page l state summary p q a =
-    same-iff _ _ .1 (a ∙ ap₂ (λ (s u : List ℕ). D .mac page (binding D u s)) (sym p) (sym q))
+    same-iff _ _ .1 (a ∙ ap₂ (λ (s u : List ℕ). D .mac page (bindingOf D u s)) (sym p) (sym q))
 
 -- a record is bound under the key alone
 pub bound-key : (n v : ℕ) (page other s state : List ℕ) → pageKey other ≡ pageKey page
     → boundRecord (design n v) other s state ≡ boundRecord (design n v) page s state
-bound-key n v page other s state key = ap (λ (k : List ℕ). recordOf n v state s (authenticatorOf k [] (binding (design n v) s state))) key
+bound-key n v page other s state key = ap (λ (k : List ℕ). recordOf n v state s (authenticatorOf k [] (bindingOf (design n v) s state))) key
 
 module _ (n v : ℕ) (page s state : List ℕ) (wide : length s ≡ hashSize) (size : length state ≡ stateSize n) where
   pub length-bound : length (boundRecord (design n v) page s state) ≡ recordSize n
@@ -38,11 +38,11 @@ module _ (n v : ℕ) (page s state : List ℕ) (wide : length s ≡ hashSize) (s
 
   pub bound-reads : (after : List ℕ) → pageKey after ≡ pageKey page → Reads (design n v) after (boundRecord (design n v) page s state) state s
   bound-reads after key =
-      let au = authenticatorOf (pageKey page) [] (binding (design n v) s state) in
+      let au = authenticatorOf (pageKey page) [] (bindingOf (design n v) s state) in
       let a : length au ≡ hashSize = length-authenticator (pageKey page) [] _ in
       let stateIs = record-state n v state s au size wide a in
       let summaryIs = record-summary n v state s au size wide a in
-      let authenticatorIs = record-authenticator n v state s au size wide a ∙ ap (λ (k : List ℕ). authenticatorOf k [] (binding (design n v) s state)) (sym key) in
+      let authenticatorIs = record-authenticator n v state s au size wide a ∙ ap (λ (k : List ℕ). authenticatorOf k [] (bindingOf (design n v) s state)) (sym key) in
       record {
         stateIs = stateIs;
         summaryIs = summaryIs;
@@ -53,7 +53,7 @@ module _ (n v : ℕ) (page s state : List ℕ) (wide : length s ≡ hashSize) (s
   pub bound-passes : v < 256 → recordSize n - 2 < 256 ^ 2 → goodState (stateOf n state) ≡ true → tested n v (boundRecord (design n v) page s state) ≡ Passed
   unfolding rightState
   bound-passes byte short good =
-      let au = authenticatorOf (pageKey page) [] (binding (design n v) s state) in
+      let au = authenticatorOf (pageKey page) [] (bindingOf (design n v) s state) in
       let a : length au ≡ hashSize = length-authenticator (pageKey page) [] _ in
       let stateIs = record-state n v state s au size wide a in
       sym (all-passed n v _ (record-size n v state s au size wide a short) (record-version n v state s au size wide a byte) (ap (λ (m : List ℕ). goodState (stateOf n m)) stateIs ∙ good))

@@ -17,7 +17,7 @@ use Rattle.racks.proofs.FirstState.{length-firstState, good-firstState}
 use Rattle.requests.specs.Layout.{bytesOfRequest}
 use Rattle.requests.specs.Formed.{rightForm, rightOther, rightAmount, wellFormed}
 use Rattle.requests.specs.Requests.{requestBy, requestOf, readRequest}
-use Rattle.rules.specs.Rules.{withCapacity, overCapacity, overStored, overLimit, verdict, carryOut}
+use Rattle.rules.specs.Rules.{withCapacity, overCapacity, overStored, overLimit, ruling, carryOut}
 use Rattle.rules.specs.Replay.{Booked, book}
 use Rattle.records.specs.Page.{hashSize, pageOf}
 use Rattle.records.specs.Record.{recordSize}
@@ -51,7 +51,7 @@ unfolding beFrom be bytesOf part bytesOfRequest rightForm rightOther rightAmount
 asked-formed = refl
 
 booked-first : book racks (firstState racks) asked ≡ Booked.booked afterwards
-unfolding beFrom be bytesOf part firstState bytesOfRequest rightForm rightOther rightAmount wellFormed requestBy requestOf readRequest overCapacity overStored overLimit verdict carryOut book
+unfolding beFrom be bytesOf part firstState bytesOfRequest rightForm rightOther rightAmount wellFormed requestBy requestOf readRequest overCapacity overStored overLimit ruling carryOut book
 booked-first = refl
 
 pub first-back : stateOf racks (bytesOfState (firstState racks)) ≡ firstState racks

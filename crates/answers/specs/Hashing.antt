@@ -19,12 +19,12 @@ nextSummary D summary request = D .hash (summaryMessage summary request)
 abbrev pub boundMessage : Design → List ℕ → List ℕ → List ℕ
 boundMessage D summary state = bindingMessage summary (stateHash D state)
 
-abbrev pub binding : Design → List ℕ → List ℕ → List ℕ
-binding D summary state = D .hash (boundMessage D summary state)
+abbrev pub bindingOf : Design → List ℕ → List ℕ → List ℕ
+bindingOf D summary state = D .hash (boundMessage D summary state)
 
 -- the binding of a record's own state to its own summary
 abbrev pub bindingIn : Design → List ℕ → List ℕ
-bindingIn D l = binding D (D .summary l) (D .stateBytes l)
+bindingIn D l = bindingOf D (D .summary l) (D .stateBytes l)
 
 -- an authenticator is valid for a record if it equals, in all 32 bytes, the one worked out from the record's own state and summary
 abbrev pub valid : Design → List ℕ → List ℕ → Bool
@@ -32,4 +32,4 @@ valid D page l = same (D .authenticator l) (D .mac page (bindingIn D l))
 
 -- the record that binds a state to a summary
 abbrev pub boundRecord : Design → List ℕ → List ℕ → List ℕ → List ℕ
-boundRecord D page summary state = D .recordOf state summary (D .mac page (binding D summary state))
+boundRecord D page summary state = D .recordOf state summary (D .mac page (bindingOf D summary state))

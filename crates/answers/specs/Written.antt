@@ -9,7 +9,7 @@ use Rattle.numbers.specs.Parts.{part}
 use Rattle.records.specs.declared.Tested.the-variants.{Passed}
 use Rattle.records.specs.Page.{zeroSummary}
 use Rattle.answers.specs.Design.{Design, Served}
-use Rattle.answers.specs.Hashing.{nextSummary, binding, valid, boundRecord}
+use Rattle.answers.specs.Hashing.{nextSummary, bindingOf, valid, boundRecord}
 use Rattle.answers.specs.Judging.{Verdict, afterCurrent, offered, performVerdict, looked, shown, viewVerdict, resumeVerdict}
 use Rattle.answers.specs.Answers.{opened, Performed, performed, repeated}
 
@@ -19,7 +19,7 @@ use Rattle.answers.specs.Answers.{opened, Performed, performed, repeated
 pub record Reads (D : Design) (page l state summary : List ℕ) : Type 0 where
   pub stateIs : D .stateBytes l ≡ state
   pub summaryIs : D .summary l ≡ summary
-  pub authenticatorIs : D .authenticator l ≡ D .mac page (binding D summary state)
+  pub authenticatorIs : D .authenticator l ≡ D .mac page (bindingOf D summary state)
   pub validity : valid D page l ≡ true
 
 -- it passes the tests 3, 4 and 5 and is current: resume hands it back, and where the tests before 7 pass, perform and view get past 8

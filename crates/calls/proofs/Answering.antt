@@ -21,10 +21,10 @@ use Rattle.requests.specs.declared.Request.{Request}
 use Rattle.requests.specs.Requests.{requestOf, rackOfRequest}
 use Rattle.requests.specs.Range.{InRange}
 use Rattle.requests.proofs.Formed.{read-formed}
-use Rattle.rules.specs.declared.Verdict.{Verdict}
-use Rattle.rules.specs.declared.Verdict.the-variants.{Free, Barred}
-use Rattle.rules.specs.Rules.{verdict, carryOut}
-use Rattle.rules.specs.Replay.{byVerdict, book}
+use Rattle.rules.specs.declared.Ruling.{Ruling}
+use Rattle.rules.specs.declared.Ruling.the-variants.{Free, Barred}
+use Rattle.rules.specs.Rules.{ruling, carryOut}
+use Rattle.rules.specs.Replay.{byRuling, book}
 use Rattle.rules.proofs.Changes.{length-carryOut}
 use Rattle.rules.proofs.Kept.{good-carryOut}
 use Rattle.records.specs.declared.Tested.the-variants.{Passed}
@@ -64,11 +64,11 @@ module _ (n v : ℕ) (page l request answer : List ℕ) where
 
 -- the service on the record's state, for a request that was offered with it, and the figure as it is read from the next state's bytes
 module _ (n v : ℕ) (page l request answer : List ℕ) (q : Request) (o : Offered n v (length page) (length answer) l request q) where
-  served-is : servedBytes n (stateBytes n l) request ≡ inBytes (byVerdict (verdict (state n l) q) (carryOut (state n l) q))
+  served-is : servedBytes n (stateBytes n l) request ≡ inBytes (byRuling (ruling (state n l) q) (carryOut (state n l) q))
   unfolding servedBytes book
   served-is = rw (o .read)
 
-  stored-is : verdict (state n l) q ≡ Free → storedAfter n (nextBytes n l q) request ≡ nextStored n l q
+  stored-is : ruling (state n l) q ≡ Free → storedAfter n (nextBytes n l q) request ≡ nextStored n l q
   unfolding storedAfter
   stored-is free =
       let racks : length (state n l) ≡ n = length-stateOf n (stateBytes n l) in
@@ -106,9 +106,9 @@ module _ {n v : ℕ} {page l request answer after : List ℕ} {c : Bool} {p : Pe
         pub stale : not t ≡ true → told (Refused Current) page answer ≡ p
         stale fails = rw (past .0, passed r _ valid-is ok, failed t c eight fails) at (call .is)
 
-        -- w is the charge rules' verdict
-        module _ (current : not t ≡ false) {w : Verdict} (judgement : w ≡ verdict (state n l) q) where
-          served : answeredBy (design n v) page l request answer after (afterCurrent (inBytes (byVerdict (verdict (state n l) q) (carryOut (state n l) q)))) ≡ p
+        -- w is the charge rules' ruling
+        module _ (current : not t ≡ false) {w : Ruling} (judgement : w ≡ ruling (state n l) q) where
+          served : answeredBy (design n v) page l request answer after (afterCurrent (inBytes (byRuling (ruling (state n l) q) (carryOut (state n l) q)))) ≡ p
           served = rw (past .0, passed r _ valid-is ok, passed t c eight current, served-is n v page l request answer q asked) at (call .is)
 
           pub barred : (b : Refusal) → w ≡ Barred b → told (Refused b) page answer ≡ p
@@ -119,7 +119,7 @@ module _ {n v : ℕ} {page l request answer after : List ℕ} {c : Bool} {p : Pe
               → z ≡ over 0 (sealedRecord n v key su (nextBytes n l q)) answer → told (Done k) y z ≡ p
           unfolding nextSummary
           done free {k} {y} {z} {su} moved next stored written =
-              let free-is : verdict (state n l) q ≡ Free = sym judgement ∙ free in
+              let free-is : ruling (state n l) q ≡ Free = sym judgement ∙ free in
               let bound : z ≡ over 0 (boundRecord (design n v) page su (nextBytes n l q)) answer =
               written ∙ ap (λ (m : List ℕ). over 0 m answer) (sealed-bound n v page key prepared su (nextBytes n l q)) in
               rw (moved, stored, bound, next, ← stored-is n v page l request answer q asked free-is) (rw free-is at served)

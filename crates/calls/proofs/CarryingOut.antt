@@ -9,9 +9,9 @@ use lib.Dec.{lit<}
 use Rattle.racks.specs.Layout.{rackSize, stateOf}
 use Rattle.requests.specs.declared.Request.{Request}
 use Rattle.requests.specs.Range.{Named, InRange}
-use Rattle.rules.specs.declared.Verdict.{Verdict}
-use Rattle.rules.specs.declared.Verdict.the-variants.{Free}
-use Rattle.rules.specs.Rules.{verdict}
+use Rattle.rules.specs.declared.Ruling.{Ruling}
+use Rattle.rules.specs.declared.Ruling.the-variants.{Free}
+use Rattle.rules.specs.Rules.{ruling}
 use Rattle.rules.specs.Ready.{racksIn, stateIn, Ready}
 use Rattle.records.specs.Record.{recordSize, stateBytes, state}
 use Rattle.bindings.proofs.Seals.{length-state}
@@ -29,9 +29,9 @@ module _ (n : ℕ) (l : List ℕ) (q : Request) (room : recordSize n ≤ length 
   named s is among = rw (is, count) among
 
   -- what is judged on the bytes is judged on the record's state
-  pub judged : (s : List ℕ) (w : Verdict) → s ≡ stateBytes n l → w ≡ verdict (stateIn s) q → w ≡ verdict (state n l) q
+  pub judged : (s : List ℕ) (w : Ruling) → s ≡ stateBytes n l → w ≡ ruling (stateIn s) q → w ≡ ruling (state n l) q
   judged s w is e = rw (is, state-in) at e
 
   -- a request that nothing bars can be carried out
-  pub ready : InRange n q → verdict (state n l) q ≡ Free → Ready (stateBytes n l) q
+  pub ready : InRange n q → ruling (state n l) q ≡ Free → Ready (stateBytes n l) q
   ready range free = record { whole = rw (count, length-state n l room); range = rw count range; free = rw state-in free }

@@ -4,7 +4,7 @@ use racks::RACK_SIZE;
 use records::HEADER_SIZE;
 use records::state_part;
 use requests::Request;
-use rules::Verdict;
+use rules::Ruling;
 use rules::carry_out;
 use rules::judge;
 ghost use mathlib.Core.Path.{_≡_};
@@ -13,17 +13,17 @@ ghost use Prim.Native.Nat.{_≤_};
 ghost use lib.ListN.{length};
 ghost use Rattle.numbers.specs.Parts.{over, join};
 ghost use Rattle.requests.specs.Range.{Named};
-ghost use Rattle.rules.specs.Rules.{verdict};
+ghost use Rattle.rules.specs.Rules.{ruling};
 ghost use Rattle.rules.specs.Ready.{Ready};
 ghost use Rattle.records.specs.Page.{hashSize};
 ghost use Rattle.records.specs.Record.{recordSize, stateBytes, state, Described};
 ghost use Rattle.calls.specs.Next.{nextBytes, nextStored};
 
-// The charge rules' verdict, tests 9 to 11, on a record's state.
-pub(crate) fn judge_record(record: &[u8], q: Request, racks: usize) -> Verdict
+// The charge rules' ruling, tests 9 to 11, on a record's state.
+pub(crate) fn judge_record(record: &[u8], q: Request, racks: usize) -> Ruling
     requires { ⌜ length (now «record») ≡ recordSize racks ⌝ }
     requires { ⌜ Named racks q ⌝ }
-    ensures { λ r. ⌜ r ≡ verdict (state racks (now («record» .entry))) q ⌝ }
+    ensures { λ r. ⌜ r ≡ ruling (state racks (now («record» .entry))) q ⌝ }
 {
     judge(state_part(record, racks), q)
 }

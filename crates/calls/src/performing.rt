@@ -16,7 +16,7 @@ use records::record_size;
 use records::summary_part;
 use refusals::Refusal;
 use requests::Request;
-use rules::Verdict;
+use rules::Ruling;
 ghost use mathlib.Core.Path.{_≡_};
 ghost use mathlib.Core.List.{[], _∷_};
 ghost use Prim.Native.Nat.{_≤_};
@@ -55,8 +55,8 @@ pub fn perform(
                 return PerformAnswer::Refused(Refusal::Current);
             }
             match judge_record(record, q, racks) {
-                Verdict::Barred(r) => PerformAnswer::Refused(r),
-                Verdict::Free => {
+                Ruling::Barred(r) => PerformAnswer::Refused(r),
+                Ruling::Free => {
                     let stored = write_performed(
                         page,
                         record,

@@ -15,7 +15,7 @@ use records::page_summary;
 use records::summary_part;
 use refusals::Refusal;
 use requests::Request;
-use rules::Verdict;
+use rules::Ruling;
 ghost use mathlib.Core.Path.{_≡_};
 ghost use Prim.Native.Nat.{_≤_};
 ghost use lib.ListN.{length};
@@ -54,8 +54,8 @@ pub fn repeat(
                 return PerformAnswer::Refused(Refusal::Current);
             }
             match judge_record(record, q, racks) {
-                Verdict::Barred(r) => PerformAnswer::Refused(r),
-                Verdict::Free => {
+                Ruling::Barred(r) => PerformAnswer::Refused(r),
+                Ruling::Free => {
                     let stored = write_repeated(
                         page,
                         record,

@@ -15,7 +15,7 @@ use Rattle.records.specs.declared.Tested.{Tested}
 use Rattle.records.specs.declared.Tested.the-variants.{Passed, Refused}
 use Rattle.bindings.specs.Hashed.{summaryMessage}
 use Rattle.answers.specs.Design.{Design, Served}
-use Rattle.answers.specs.Hashing.{nextSummary, binding, bindingIn, valid}
+use Rattle.answers.specs.Hashing.{nextSummary, bindingOf, bindingIn, valid}
 use Rattle.answers.specs.Judging.{Verdict, early, forged, stale, barred, good, judged, offered, performVerdict, repeatVerdict, viewVerdict, resumeVerdict}
 use Rattle.answers.specs.Answers.{openTests, Performed, nextRecord, answeredBy, performed, repeated}
 use Rattle.answers.specs.Written.{front}
@@ -112,7 +112,7 @@ module _ (D : Design) (laws : Laws D) (page l request answer state room : List �
       record {
         repeat = retried _ (ap (answeredBy D after l request room after) (judged-good state tests seven eight serves)
             ∙ ap {B = Performed} (λ tag. record { number = 0; stored = D .storedAfter state request; page = after; answer = over 0 (D .recordOf state next tag) room })
-            (mac (binding D next state)));
+            (mac (bindingOf D next state)));
         perform = ap (answeredBy D after l request room (D .withSummary after next))
             (judged-stale (D .served (D .stateBytes l) request) tests seven (differ (D .summary l) (D .pageSummary after) moved));
       }

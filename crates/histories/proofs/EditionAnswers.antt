@@ -7,7 +7,7 @@ use mathlib.Core.List.{List, [], _∷_}
 use Rattle.records.specs.declared.Tested.{Tested}
 use Rattle.records.specs.declared.Tested.the-variants.{Passed, Refused}
 use Rattle.answers.specs.Design.{Design, Served}
-use Rattle.answers.specs.Hashing.{nextSummary, binding, bindingIn}
+use Rattle.answers.specs.Hashing.{nextSummary, bindingOf, bindingIn}
 use Rattle.answers.specs.Judging.{Verdict, early, forged, stale, barred, good, performVerdict, repeatVerdict}
 use Rattle.answers.specs.Answers.{openTests, openedBy, opened, Performed, answeredBy, performed, repeated}
 use Rattle.answers.specs.Edition.{design}
@@ -18,7 +18,7 @@ use Rattle.histories.specs.Ties.{WhereAccepted, AnswersAreCounted}
 use Rattle.histories.proofs.Verdicts.{perform-good, repeat-good, some-number}
 
 -- a record that reads as a state and a summary has their binding
-reads-bound : (D : Design) (page l state summary : List ℕ) → Reads D page l state summary → binding D summary state ∷ [] ≡ bindingIn D l ∷ []
+reads-bound : (D : Design) (page l state summary : List ℕ) → Reads D page l state summary → bindingOf D summary state ∷ [] ≡ bindingIn D l ∷ []
 reads-bound D page l state summary r = rw (r .summaryIs, r .stateIs) refl
 
 -- the service gives one state
@@ -27,7 +27,7 @@ one-state p q = cc
 
 -- what perform or repeat has answered has the binding of the state that the service gives
 answered-bound : (D : Design) (l request answer state : List ℕ) (p : Performed) → D .served (D .stateBytes l) request ≡ Served.carried state → Answered D l request answer p
-    → binding D (nextSummary D (D .summary l) request) state ∷ [] ≡ bindingIn D (front D (p .answer)) ∷ []
+    → bindingOf D (nextSummary D (D .summary l) request) state ∷ [] ≡ bindingIn D (front D (p .answer)) ∷ []
 answered-bound D l request answer state p serves a =
     let is : state ≡ a .state = one-state serves (a .carries) in rw is (reads-bound D _ _ _ _ (a .wrote .reads))
 
@@ -39,7 +39,7 @@ module _ (D : Design) (page : List ℕ) where
   open-counted after answer bound (Refused r) is = record { accepted = λ zero. absurd (omega (arith, some-number r)); refused = λ other. refl }
 
   perform-counted : (left l request answer after bound : List ℕ) (v : Verdict)
-      → ((state : List ℕ) → v ≡ good state → binding D (nextSummary D (D .summary l) request) state ∷ [] ≡ bound ∷ [])
+      → ((state : List ℕ) → v ≡ good state → bindingOf D (nextSummary D (D .summary l) request) state ∷ [] ≡ bound ∷ [])
       → WhereAccepted (answeredBy D page l request answer after v .number) bound (performDid D left l request v .answered)
   perform-counted left l request answer after bound (good state) is = record { accepted = λ zero. is state refl; refused = λ other. absurd (other refl) }
   perform-counted left l request answer after bound (early r) is =

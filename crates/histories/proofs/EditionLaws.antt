@@ -17,10 +17,10 @@ use Rattle.refusals.specs.Numbers.{numberOf}
 use Rattle.racks.specs.Layout.{stateOf}
 use Rattle.requests.specs.Formed.{wellFormed}
 use Rattle.requests.specs.Requests.{requestOf, readRequest}
-use Rattle.rules.specs.declared.Verdict.{Verdict}
-use Rattle.rules.specs.declared.Verdict.the-variants.{Free, Barred}
-use Rattle.rules.specs.Rules.{overCapacity, overStored, overLimit, verdict, carryOut}
-use Rattle.rules.specs.Replay.{byVerdict, book}
+use Rattle.rules.specs.declared.Ruling.{Ruling}
+use Rattle.rules.specs.declared.Ruling.the-variants.{Free, Barred}
+use Rattle.rules.specs.Rules.{overCapacity, overStored, overLimit, ruling, carryOut}
+use Rattle.rules.specs.Replay.{byRuling, book}
 use Rattle.records.specs.declared.Tested.the-variants.{Passed, Refused}
 use Rattle.records.specs.Page.{hashSize, pageSize, pageSummary, pageKey}
 use Rattle.records.specs.Record.{stateSize, stateBytes, summary, rightSize, rightVersion, rightState}
@@ -89,7 +89,7 @@ early-number true false state r e = let is : Version ≡ r = cc in rw (sym is) (
 early-number false version state r e = let is : Record ≡ r = cc in rw (sym is) (omega arith)
 
 behind-number : (capacity stored limit : Bool) (state : _) (r : Refusal)
-    → inBytes (byVerdict (cond capacity (Barred Capacity) (cond stored (Barred Stored) (cond limit (Barred Limit) Free))) state) ≡ Served.barred r
+    → inBytes (byRuling (cond capacity (Barred Capacity) (cond stored (Barred Stored) (cond limit (Barred Limit) Free))) state) ≡ Served.barred r
     → numberOf Current < numberOf r
 behind-number true stored limit state r e = let is : Capacity ≡ r = cc in rw (sym is) (omega arith)
 behind-number false true limit state r e = let is : Stored ≡ r = cc in rw (sym is) (omega arith)
@@ -102,7 +102,7 @@ early-numbers n v l r e = early-number (rightSize n l) (rightVersion n v l) (rig
 
 pub behind-numbers : (n : ℕ) (state request : List ℕ) (r : Refusal) → wellFormed n request ≡ true → servedBytes n state request ≡ Served.barred r
     → numberOf Current < numberOf r
-unfolding servedBytes book readRequest verdict
+unfolding servedBytes book readRequest ruling
 behind-numbers n state request r formed e =
     let s = stateOf n state in
     let q = requestOf request in

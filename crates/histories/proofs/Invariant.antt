@@ -9,7 +9,7 @@ use mathlib.Core.List.{List, [], _∷_, _++_, List·Memᴰ, List·Memᴰ·head, 
 use Rattle.records.specs.declared.Tested.the-variants.{Passed}
 use Rattle.bindings.specs.Hashed.{summaryMessage}
 use Rattle.answers.specs.Design.{Design, Served}
-use Rattle.answers.specs.Hashing.{nextSummary, boundMessage, binding, bindingIn}
+use Rattle.answers.specs.Hashing.{nextSummary, boundMessage, bindingOf, bindingIn}
 use Rattle.answers.specs.Rows.{servedAlong, summaryAlong, Origin, originSummary, originState}
 use Rattle.histories.specs.Did.{Did, recordMessages}
 use Rattle.histories.specs.Runs.{Run, callOf, Fresh, pageAfterStep, movedBy, pageAfter, doneBy, inRun, answeredBefore, movedBefore}
@@ -59,7 +59,7 @@ stands-after D laws fresh f messages (s ∷ older) hashed =
 pub record Bound (D : Design) (messages : List (List ℕ)) (bound : List ℕ) : Type 0 where
   pub path : List (List ℕ)
   pub state : List ℕ
-  pub binds : bound ≡ binding D (endOf D path) state
+  pub binds : bound ≡ bindingOf D (endOf D path) state
   pub walked : Walked D messages path
   pub gives : given D path ≡ Served.carried state
   pub states : List·Memᴰ (D .stateMessage state) messages
@@ -113,7 +113,7 @@ module _ (D : Design) (laws : Laws D) (messages : List (List ℕ)) (clear : Apar
         record {
           path = onto (r .path) (a .row);
           state = a .state;
-          binds = a .binds ∙ ap (λ (s : List ℕ). binding D s (a .state)) ends;
+          binds = a .binds ∙ ap (λ (s : List ℕ). bindingOf D s (a .state)) ends;
           walked = walked-onto D messages (r .path) (a .row) (r .walked) (λ x m. hashed x (a .led .chain x (rw (r .ends) m)));
           gives = sym (given-onto D (r .path) (a .row)) ∙ ap (λ (v : Served). servedAlong D v (a .row)) (r .gives) ∙ a .led .serves;
           states = hashed _ (a .led .states);

@@ -10,7 +10,7 @@ use Rattle.records.specs.declared.Tested.{Tested}
 use Rattle.records.specs.declared.Tested.the-variants.{Passed, Refused}
 use Rattle.bindings.specs.Hashed.{summaryMessage}
 use Rattle.answers.specs.Design.{Design, Served}
-use Rattle.answers.specs.Hashing.{nextSummary, boundMessage, binding}
+use Rattle.answers.specs.Hashing.{nextSummary, boundMessage, bindingOf}
 use Rattle.answers.specs.Rows.{summaryAlong, messagesAlong, servedAlong, Origin, originSummary, originState}
 use Rattle.answers.specs.Judging.{Verdict, early, forged, stale, barred, good, performVerdict, repeatVerdict, viewVerdict, resumeVerdict}
 use Rattle.answers.specs.Answers.{openTests, openedBy, opened, answeredBy, performed, repeated}
@@ -49,7 +49,7 @@ pub record Answered (D : Design) (d : Did) (bound : List ℕ) : Type 0 where
   pub row : List (List ℕ)
   pub state : List ℕ
   pub led : Led D d origin row state
-  pub binds : bound ≡ binding D (summaryAlong D (originSummary D origin) row) state
+  pub binds : bound ≡ bindingOf D (summaryAlong D (originSummary D origin) row) state
 
 -- the page stays, or the next summary of a record taken, by a request, is put in it
 pub data Moved (D : Design) (page : List ℕ) (d : Did) (after : List ℕ) (moved : List (List ℕ)) : Type 0 where

@@ -10,7 +10,7 @@ use lib.Seq.{take-at, drop-at}
 use Rattle.records.specs.Page.{hashSize, zeroSummary}
 use Rattle.bindings.specs.Hashed.{summaryMessage, bindingMessage}
 use Rattle.answers.specs.Design.{Design, Served}
-use Rattle.answers.specs.Hashing.{nextSummary, stateHash, boundMessage, binding}
+use Rattle.answers.specs.Hashing.{nextSummary, stateHash, boundMessage, bindingOf}
 use Rattle.answers.specs.Rows.{summaryAlong, messagesAlong, thenServed, servedAlong, replayed}
 use Rattle.histories.specs.Laws.{Laws}
 use Rattle.histories.specs.Premises.{Apart}
@@ -106,7 +106,7 @@ module _ (D : Design) (laws : Laws D) (messages : List (List ℕ)) (clear : Apar
   pub one-state : (s t a b : List ℕ) → length s ≡ hashSize → length t ≡ hashSize
       → List·Memᴰ (D .stateMessage a) messages → List·Memᴰ (boundMessage D s a) messages
       → List·Memᴰ (D .stateMessage b) messages → List·Memᴰ (boundMessage D t b) messages
-      → binding D s a ≡ binding D t b → (s ≡ t) × (a ≡ b)
+      → bindingOf D s a ≡ bindingOf D t b → (s ≡ t) × (a ≡ b)
   one-state s t a b long short sa ma sb mb e =
       let alike : boundMessage D s a ≡ boundMessage D t b = clear .apart _ _ ma mb e in
       let parts = binding-parts s t (stateHash D a) (stateHash D b) long short alike in

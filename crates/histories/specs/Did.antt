@@ -6,7 +6,7 @@ use Rattle.records.specs.declared.Tested.{Tested}
 use Rattle.records.specs.declared.Tested.the-variants.{Passed, Refused}
 use Rattle.bindings.specs.Hashed.{summaryMessage}
 use Rattle.answers.specs.Design.{Design}
-use Rattle.answers.specs.Hashing.{boundMessage, binding}
+use Rattle.answers.specs.Hashing.{boundMessage, bindingOf}
 use Rattle.answers.specs.Rows.{summaryAlong, messagesAlong, Origin, originSummary}
 use Rattle.answers.specs.Judging.{Verdict, early, forged, stale, barred, good, performVerdict, repeatVerdict, viewVerdict, resumeVerdict}
 use Rattle.answers.specs.Answers.{openTests, opened, performed, repeated}
@@ -78,7 +78,7 @@ answers D page moved o row state =
       hashed = answerMessages D o row state;
       found = [];
       taken = [];
-      answered = binding D (summaryAlong D (originSummary D o) row) state ∷ [];
+      answered = bindingOf D (summaryAlong D (originSummary D o) row) state ∷ [];
       moved = moved;
       needed = answerMessages D o row state;
       relied = [];

@@ -16,7 +16,7 @@ use Rattle.racks.specs.Figures.{percent, totalStored}
 use Rattle.requests.specs.Layout.{bytesOfRequest}
 use Rattle.requests.specs.Formed.{rightForm, rightOther, rightAmount, wellFormed}
 use Rattle.requests.specs.Requests.{requestBy, requestOf, readRequest}
-use Rattle.rules.specs.Rules.{overCapacity, overStored, overLimit, verdict, carryOut}
+use Rattle.rules.specs.Rules.{overCapacity, overStored, overLimit, ruling, carryOut}
 use Rattle.rules.specs.Replay.{book}
 use Rattle.records.specs.Page.{zeroSummary, pageKey}
 use Rattle.records.specs.Record.{recordOf, rightSize, rightVersion, rightState}
@@ -227,5 +227,5 @@ of-forged = messagesOf summary-acd state-ab
 
 -- to unfold this is to unfold all definitions that the calls are computed by
 unfoldable pub computing : Unit {0}
-unfolding toyHash zeroSummary openTests opened performed repeated viewed resumed performVerdict repeatVerdict viewVerdict resumeVerdict same part over beFrom be bytesOf tested rightSize rightVersion rightState goodState goodRack stateOf rackOf bytesOfRack bytesOfState bytesOfRequest firstState percent totalStored rightForm rightOther rightAmount wellFormed requestBy requestOf readRequest overCapacity overStored overLimit verdict carryOut book servedBytes storedAfter recordOf
+unfolding toyHash zeroSummary openTests opened performed repeated viewed resumed performVerdict repeatVerdict viewVerdict resumeVerdict same part over beFrom be bytesOf tested rightSize rightVersion rightState goodState goodRack stateOf rackOf bytesOfRack bytesOfState bytesOfRequest firstState percent totalStored rightForm rightOther rightAmount wellFormed requestBy requestOf readRequest overCapacity overStored overLimit ruling carryOut book servedBytes storedAfter recordOf
 computing = tt

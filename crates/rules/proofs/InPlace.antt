@@ -20,7 +20,7 @@ use Rattle.requests.specs.Requests.{rackOfRequest, moves}
 use Rattle.requests.specs.Range.{InRange}
 use Rattle.rules.specs.Rules.{chargedBy, dischargedBy, carryOut}
 use Rattle.rules.specs.Ready.{TakesIn, racksIn, stateIn, Holds, Put, Ready}
-use Rattle.rules.proofs.Verdicts.{free-move}
+use Rattle.rules.proofs.Rulings.{free-move}
 use Rattle.rules.proofs.Changes.{changed, sets-one, rack-after}
 
 -- a rack is written where it lies

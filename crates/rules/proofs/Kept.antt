@@ -17,10 +17,10 @@ use Rattle.requests.specs.declared.Request.{Request}
 use Rattle.requests.specs.declared.Request.the-variants.{Capacity, Charge, Discharge, Move}
 use Rattle.requests.specs.Requests.{charged, discharged}
 use Rattle.requests.specs.Range.{InRange}
-use Rattle.rules.specs.declared.Verdict.the-variants.{Free}
-use Rattle.rules.specs.Rules.{withCapacity, chargedBy, dischargedBy, verdict, carryOut}
+use Rattle.rules.specs.declared.Ruling.the-variants.{Free}
+use Rattle.rules.specs.Rules.{withCapacity, chargedBy, dischargedBy, ruling, carryOut}
 use Rattle.rules.specs.Ready.{TakesIn, GivesOut}
-use Rattle.rules.proofs.Verdicts.{free-capacity, free-charge, free-discharge, free-move}
+use Rattle.rules.proofs.Rulings.{free-capacity, free-charge, free-discharge, free-move}
 use Rattle.rules.proofs.Changes.{sent, length-carryOut, Risen, never-fall}
 
 -- ---- one rack
@@ -42,7 +42,7 @@ set-good : (s : State) (i : ℕ) (f : Rack → Rack) → goodState s ≡ true �
 set-good s i f good keeps = good-set s i (f (rackAt s i)) good (good-iff _ .1 (keeps (good-iff _ .0 (good-at s i good))))
 
 -- the state rule is kept
-pub good-carryOut : (s : State) (q : Request) → InRange (length s) q → verdict s q ≡ Free → goodState s ≡ true → goodState (carryOut s q) ≡ true
+pub good-carryOut : (s : State) (q : Request) → InRange (length s) q → ruling s q ≡ Free → goodState s ≡ true → goodState (carryOut s q) ≡ true
 unfolding carryOut
 good-carryOut s (Capacity i a) range free good =
     set-good s i (withCapacity a) good (good-capacity a (rackAt s i) (range .within) (free-capacity s i a free))
@@ -55,7 +55,7 @@ good-carryOut s (Move i o a) range free good =
     good-set (sent s i a) o (chargedBy a (rackAt s o)) first (good-iff _ .1 other)
 
 -- the total changes by what is charged and what is discharged
-pub total-carryOut : (s : State) (q : Request) → InRange (length s) q → verdict s q ≡ Free
+pub total-carryOut : (s : State) (q : Request) → InRange (length s) q → ruling s q ≡ Free
     → totalStored (carryOut s q) + discharged q ≡ totalStored s + charged q
 unfolding carryOut
 total-carryOut s (Capacity i a) range free = omega (arith, total-set s i (withCapacity a (rackAt s i)) (range .named .rack))
@@ -77,7 +77,7 @@ pub record Kept (gain loss : ℕ) (s t : State) : Type 0 where
   pub total : totalStored t + loss ≡ totalStored s + gain
   pub risen : (j : ℕ) → Risen (rackAt s j) (rackAt t j)
 
-pub kept-carryOut : (s : State) (q : Request) → InRange (length s) q → verdict s q ≡ Free → goodState s ≡ true
+pub kept-carryOut : (s : State) (q : Request) → InRange (length s) q → ruling s q ≡ Free → goodState s ≡ true
     → Kept (charged q) (discharged q) s (carryOut s q)
 kept-carryOut s q range free good =
     record { racks = length-carryOut s q; good = good-carryOut s q range free good; total = total-carryOut s q range free; risen = never-fall s q }

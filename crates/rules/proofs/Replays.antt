@@ -16,10 +16,10 @@ use Rattle.requests.specs.declared.Reading.{Reading}
 use Rattle.requests.specs.declared.Reading.the-variants.{Formed, Malformed}
 use Rattle.requests.specs.Requests.{readRequest, charged, discharged}
 use Rattle.requests.proofs.Formed.{in-range}
-use Rattle.rules.specs.declared.Verdict.{Verdict}
-use Rattle.rules.specs.declared.Verdict.the-variants.{Free, Barred}
-use Rattle.rules.specs.Rules.{verdict, carryOut}
-use Rattle.rules.specs.Replay.{Booked, booked, refused, byVerdict, byReading, book, thenBook, replay}
+use Rattle.rules.specs.declared.Ruling.{Ruling}
+use Rattle.rules.specs.declared.Ruling.the-variants.{Free, Barred}
+use Rattle.rules.specs.Rules.{ruling, carryOut}
+use Rattle.rules.specs.Replay.{Booked, booked, refused, byRuling, byReading, book, thenBook, replay}
 use Rattle.rules.specs.Sums.{ofReading, sumOf, sumCharged, sumDischarged}
 use Rattle.rules.proofs.Kept.{Kept, kept-none, kept-then, kept-carryOut}
 
@@ -29,17 +29,17 @@ use Rattle.rules.proofs.Kept.{Kept, kept-none, kept-then, kept-carryOut
 pub record Booking (n : ℕ) (s : State) (l : List ℕ) (t : State) : Type 0 where
   pub request : Request
   pub read : readRequest n l ≡ Formed request
-  pub free : verdict s request ≡ Free
+  pub free : ruling s request ≡ Free
   pub gives : carryOut s request ≡ t
 
-free-of : (v : Verdict) (s t : State) → byVerdict v s ≡ booked t → (v ≡ Free) × (s ≡ t)
+free-of : (v : Ruling) (s t : State) → byRuling v s ≡ booked t → (v ≡ Free) × (s ≡ t)
 free-of Free s t e = (refl, cc)
 free-of (Barred r) s t e = let z : _≡_ {A = ℕ} 0 1 = cc in absurd (omega arith)
 
 booking-of : (n : ℕ) (s t : State) (l : List ℕ) (r : Reading) → readRequest n l ≡ r → byReading s r ≡ booked t → Booking n s l t
 booking-of n s t l Malformed read e = let z : _≡_ {A = ℕ} 0 1 = cc in absurd (omega arith)
 booking-of n s t l (Formed q) read e =
-    let f = free-of (verdict s q) (carryOut s q) t e in
+    let f = free-of (ruling s q) (carryOut s q) t e in
     record { request = q; read = read; free = f .0; gives = f .1 }
 
 pub booking : (n : ℕ) (s t : State) (l : List ℕ) → book n s l ≡ booked t → Booking n s l t

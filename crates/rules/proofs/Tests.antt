@@ -1,4 +1,4 @@
--- The verdict from the answers of its tests, in the order in which the code asks them; a test that is not reached stands as it is.
+-- The ruling from the answers of its tests, in the order in which the code asks them; a test that is not reached stands as it is.
 -- The idea: an answer is put in the place of its test. Assumes nothing.
 use mathlib.Core.Path.{_≡_, sym, _∙_}
 use mathlib.Core.Bool.{Bool, _||_, cond}
@@ -16,14 +16,14 @@ use Rattle.refusals.specs.declared.Refusal.the-variants.{Capacity as CapacityRe
 use Rattle.requests.specs.declared.Request.{Request}
 use Rattle.requests.specs.declared.Request.the-variants.{Capacity, Charge, Discharge, Move}
 use Rattle.requests.specs.Requests.{arrives}
-use Rattle.rules.specs.declared.Verdict.the-variants.{Free, Barred}
-use Rattle.rules.specs.Rules.{overCapacity, overStored, overLimit, verdict}
+use Rattle.rules.specs.declared.Ruling.the-variants.{Free, Barred}
+use Rattle.rules.specs.Rules.{overCapacity, overStored, overLimit, ruling}
 
 -- 9, 10 and 11
-pub verdict-is : (s : State) (q : Request) {a b c : Bool} → overCapacity s q ≡ a → overStored s q ≡ b → overLimit s q ≡ c
-    → cond a (Barred CapacityRefusal) (cond b (Barred Stored) (cond c (Barred Limit) Free)) ≡ verdict s q
-unfolding verdict
-verdict-is s q p r t = rw (p, r, t)
+pub ruling-is : (s : State) (q : Request) {a b c : Bool} → overCapacity s q ≡ a → overStored s q ≡ b → overLimit s q ≡ c
+    → cond a (Barred CapacityRefusal) (cond b (Barred Stored) (cond c (Barred Limit) Free)) ≡ ruling s q
+unfolding ruling
+ruling-is s q p r t = rw (p, r, t)
 
 -- 11 of a move: the rack that takes in, and the one that gives out
 pub limit-is : (s : State) (i o a : ℕ) {b c : Bool} → ltb flowLimit (rackAt s o .taken + arrives (Move i o a)) ≡ b → ltb flowLimit (rackAt s i .given + a) ≡ c
@@ -41,18 +41,18 @@ rise-test n m k fits = by (decLe m (n - k))
 
 -- what the rules say of a request on a state is what they say of it on the racks that it names
 module _ (s : State) {q : Request} where
-  pub of-capacity : (i a : ℕ) {r : Rack} → r ≡ rackAt s i → q ≡ Capacity i a → verdict (r ∷ []) (Capacity 0 a) ≡ verdict s q
-  unfolding verdict overCapacity overStored overLimit
+  pub of-capacity : (i a : ℕ) {r : Rack} → r ≡ rackAt s i → q ≡ Capacity i a → ruling (r ∷ []) (Capacity 0 a) ≡ ruling s q
+  unfolding ruling overCapacity overStored overLimit
   of-capacity i a rack kind = rw (rack, kind)
 
-  pub of-charge : (i a : ℕ) {r : Rack} → r ≡ rackAt s i → q ≡ Charge i a → verdict (r ∷ []) (Charge 0 a) ≡ verdict s q
-  unfolding verdict overCapacity overStored overLimit
+  pub of-charge : (i a : ℕ) {r : Rack} → r ≡ rackAt s i → q ≡ Charge i a → ruling (r ∷ []) (Charge 0 a) ≡ ruling s q
+  unfolding ruling overCapacity overStored overLimit
   of-charge i a rack kind = rw (rack, kind)
 
-  pub of-discharge : (i a : ℕ) {r : Rack} → r ≡ rackAt s i → q ≡ Discharge i a → verdict (r ∷ []) (Discharge 0 a) ≡ verdict s q
-  unfolding verdict overCapacity overStored overLimit
+  pub of-discharge : (i a : ℕ) {r : Rack} → r ≡ rackAt s i → q ≡ Discharge i a → ruling (r ∷ []) (Discharge 0 a) ≡ ruling s q
+  unfolding ruling overCapacity overStored overLimit
   of-discharge i a rack kind = rw (rack, kind)
 
-  pub of-move : (i o a : ℕ) {r t : Rack} → r ≡ rackAt s i → t ≡ rackAt s o → q ≡ Move i o a → verdict (r ∷ t ∷ []) (Move 0 1 a) ≡ verdict s q
-  unfolding verdict overCapacity overStored overLimit
+  pub of-move : (i o a : ℕ) {r t : Rack} → r ≡ rackAt s i → t ≡ rackAt s o → q ≡ Move i o a → ruling (r ∷ t ∷ []) (Move 0 1 a) ≡ ruling s q
+  unfolding ruling overCapacity overStored overLimit
   of-move i o a rack other kind = rw (rack, other, kind)

@@ -10,8 +10,8 @@ use Rattle.racks.specs.Layout.{rackSize, stateOf}
 use Rattle.racks.specs.Rule.{flowLimit}
 use Rattle.requests.specs.declared.Request.{Request}
 use Rattle.requests.specs.Range.{InRange}
-use Rattle.rules.specs.declared.Verdict.the-variants.{Free}
-use Rattle.rules.specs.Rules.{verdict}
+use Rattle.rules.specs.declared.Ruling.the-variants.{Free}
+use Rattle.rules.specs.Rules.{ruling}
 
 -- a rack can take in so much: neither capacity nor the limit is passed
 pub record TakesIn (a : ℕ) (r : Rack) : Type 0 where
@@ -44,4 +44,4 @@ pub record Put (l m : List ℕ) (i : ℕ) (r : Rack) (n : ℕ) : Type 0 where
 pub record Ready (l : List ℕ) (q : Request) : Type 0 where
   pub whole : racksIn l * rackSize ≡ length l
   pub range : InRange (racksIn l) q
-  pub free : verdict (stateIn l) q ≡ Free
+  pub free : ruling (stateIn l) q ≡ Free

@@ -9,22 +9,22 @@ use Rattle.refusals.specs.declared.Refusal.the-variants.{Request as RequestRefu
 use Rattle.requests.specs.declared.Reading.{Reading}
 use Rattle.requests.specs.declared.Reading.the-variants.{Formed, Malformed}
 use Rattle.requests.specs.Requests.{readRequest}
-use Rattle.rules.specs.declared.Verdict.{Verdict}
-use Rattle.rules.specs.declared.Verdict.the-variants.{Free, Barred}
-use Rattle.rules.specs.Rules.{verdict, carryOut}
+use Rattle.rules.specs.declared.Ruling.{Ruling}
+use Rattle.rules.specs.declared.Ruling.the-variants.{Free, Barred}
+use Rattle.rules.specs.Rules.{ruling, carryOut}
 
 -- what comes of a request, or of a row of them
 pub data Booked : Type 0 where
   booked : State → Booked
   refused : Refusal → Booked
 
-abbrev pub byVerdict : Verdict → State → Booked
-byVerdict Free s = booked s
-byVerdict (Barred r) s = refused r
+abbrev pub byRuling : Ruling → State → Booked
+byRuling Free s = booked s
+byRuling (Barred r) s = refused r
 
 abbrev pub byReading : State → Reading → Booked
 byReading s Malformed = refused RequestRefusal
-byReading s (Formed q) = byVerdict (verdict s q) (carryOut s q)
+byReading s (Formed q) = byRuling (ruling s q) (carryOut s q)
 
 -- one request's bytes on a state of n racks
 unfoldable pub book : ℕ → State → List ℕ → Booked

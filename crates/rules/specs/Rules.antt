@@ -12,8 +12,8 @@ use Rattle.refusals.specs.declared.Refusal.the-variants.{Capacity as CapacityRe
 use Rattle.requests.specs.declared.Request.{Request}
 use Rattle.requests.specs.declared.Request.the-variants.{Capacity, Charge, Discharge, Move}
 use Rattle.requests.specs.Requests.{arrives}
-use Rattle.rules.specs.declared.Verdict.{Verdict}
-use Rattle.rules.specs.declared.Verdict.the-variants.{Free, Barred}
+use Rattle.rules.specs.declared.Ruling.{Ruling}
+use Rattle.rules.specs.declared.Ruling.the-variants.{Free, Barred}
 
 -- 9: charge, or a move into other, would pass capacity; new capacity under stored
 unfoldable pub overCapacity : State → Request → Bool
@@ -37,8 +37,8 @@ overLimit s (Discharge i a) = ltb flowLimit (rackAt s i .given + a)
 overLimit s (Move i o a) = ltb flowLimit (rackAt s o .taken + arrives (Move i o a)) || ltb flowLimit (rackAt s i .given + a)
 
 -- tests are made in the order of the numbers, and the first that applies is the answer
-unfoldable pub verdict : State → Request → Verdict
-verdict s q =
+unfoldable pub ruling : State → Request → Ruling
+ruling s q =
     cond (overCapacity s q) (Barred CapacityRefusal) (cond (overStored s q) (Barred Stored) (cond (overLimit s q) (Barred Limit) Free))
 
 -- a rack after each of the three changes

@@ -21,7 +21,7 @@ use Rattle.requests.specs.declared.Request.the-variants.{Capacity, Charge, Disc
 use Rattle.requests.specs.Layout.{bytesOfRequest}
 use Rattle.requests.specs.Formed.{rightForm, rightOther, rightAmount, wellFormed}
 use Rattle.requests.specs.Requests.{requestBy, requestOf, readRequest}
-use Rattle.rules.specs.Rules.{overCapacity, overStored, overLimit, verdict, carryOut}
+use Rattle.rules.specs.Rules.{overCapacity, overStored, overLimit, ruling, carryOut}
 use Rattle.rules.specs.Replay.{Booked, booked, refused, book}
 
 -- ---- what a case says
@@ -116,5 +116,5 @@ failing [] = []
 failing ((k, b) ∷ cs) = cond b (failing cs) (k ∷ failing cs)
 
 pub acceptance : failing table ≡ []
-unfolding beFrom be bytesOf part same firstState percent bytesOfRequest rightForm rightOther rightAmount wellFormed requestBy requestOf readRequest overCapacity overStored overLimit verdict carryOut book
+unfolding beFrom be bytesOf part same firstState percent bytesOfRequest rightForm rightOther rightAmount wellFormed requestBy requestOf readRequest overCapacity overStored overLimit ruling carryOut book
 acceptance = refl

@@ -1,5 +1,5 @@
 // The tests of the rules, in the order of their numbers: a function for each kind of request.
-use super::Verdict;
+use super::Ruling;
 use super::state::rack_at;
 use racks::FLOW_LIMIT;
 use racks::Rack;
@@ -10,13 +10,13 @@ ghost use mathlib.Core.List.{[], _∷_};
 ghost use Prim.Native.Nat.{_+_};
 ghost use lib.Dec.{ltb};
 ghost use Rattle.requests.specs.Range.{Named};
-ghost use Rattle.rules.specs.Rules.{verdict};
+ghost use Rattle.rules.specs.Rules.{ruling};
 ghost use Rattle.rules.specs.Ready.{racksIn, stateIn};
 
 // What the rules say of a request on the state that lies in the bytes, whatever its figures are.
-pub fn judge(state: &[u8], q: Request) -> Verdict
+pub fn judge(state: &[u8], q: Request) -> Ruling
     requires { ⌜ Named (racksIn (now state)) q ⌝ }
-    ensures { λ r. ⌜ r ≡ verdict (stateIn (now (state .entry))) q ⌝ }
+    ensures { λ r. ⌜ r ≡ ruling (stateIn (now (state .entry))) q ⌝ }
 {
     match q {
         Request::Capacity { rack, amount } => on_capacity(rack_at(state, rack), amount),
@@ -31,58 +31,58 @@ pub fn judge(state: &[u8], q: Request) -> Verdict
 }
 
 // A new capacity for r.
-fn on_capacity(r: Rack, amount: u32) -> Verdict
-    ensures { λ v. ⌜ v ≡ verdict (r ∷ []) (Request.Capacity 0 amount) ⌝ }
+fn on_capacity(r: Rack, amount: u32) -> Ruling
+    ensures { λ v. ⌜ v ≡ ruling (r ∷ []) (Request.Capacity 0 amount) ⌝ }
 {
     if amount < r.stored {
-        return Verdict::Barred(Refusal::Capacity);
+        return Ruling::Barred(Refusal::Capacity);
     }
-    Verdict::Free
+    Ruling::Free
 }
 
 // A charge to r.
-fn on_charge(r: Rack, amount: u32) -> Verdict
-    ensures { λ v. ⌜ v ≡ verdict (r ∷ []) (Request.Charge 0 amount) ⌝ }
+fn on_charge(r: Rack, amount: u32) -> Ruling
+    ensures { λ v. ⌜ v ≡ ruling (r ∷ []) (Request.Charge 0 amount) ⌝ }
 {
     if passes(r.stored as u64, amount, r.capacity as u64) {
-        return Verdict::Barred(Refusal::Capacity);
+        return Ruling::Barred(Refusal::Capacity);
     }
     if passes(r.taken, amount, FLOW_LIMIT) {
-        return Verdict::Barred(Refusal::Limit);
+        return Ruling::Barred(Refusal::Limit);
     }
-    Verdict::Free
+    Ruling::Free
 }
 
 // A discharge from r.
-fn on_discharge(r: Rack, amount: u32) -> Verdict
-    ensures { λ v. ⌜ v ≡ verdict (r ∷ []) (Request.Discharge 0 amount) ⌝ }
+fn on_discharge(r: Rack, amount: u32) -> Ruling
+    ensures { λ v. ⌜ v ≡ ruling (r ∷ []) (Request.Discharge 0 amount) ⌝ }
 {
     if r.stored < amount {
-        return Verdict::Barred(Refusal::Stored);
+        return Ruling::Barred(Refusal::Stored);
     }
     if passes(r.given, amount, FLOW_LIMIT) {
-        return Verdict::Barred(Refusal::Limit);
+        return Ruling::Barred(Refusal::Limit);
     }
-    Verdict::Free
+    Ruling::Free
 }
 
 // A move from r to o.
-fn on_move(r: Rack, o: Rack, amount: u32) -> Verdict
-    ensures { λ v. ⌜ v ≡ verdict (r ∷ o ∷ []) (Request.Move 0 1 amount) ⌝ }
+fn on_move(r: Rack, o: Rack, amount: u32) -> Ruling
+    ensures { λ v. ⌜ v ≡ ruling (r ∷ o ∷ []) (Request.Move 0 1 amount) ⌝ }
 {
     if passes(o.stored as u64, amount, o.capacity as u64) {
-        return Verdict::Barred(Refusal::Capacity);
+        return Ruling::Barred(Refusal::Capacity);
     }
     if r.stored < amount {
-        return Verdict::Barred(Refusal::Stored);
+        return Ruling::Barred(Refusal::Stored);
     }
     if passes(o.taken, amount, FLOW_LIMIT) {
-        return Verdict::Barred(Refusal::Limit);
+        return Ruling::Barred(Refusal::Limit);
     }
     if passes(r.given, amount, FLOW_LIMIT) {
-        return Verdict::Barred(Refusal::Limit);
+        return Ruling::Barred(Refusal::Limit);
     }
-    Verdict::Free
+    Ruling::Free
 }
 
 // Whether a figure that rises by an amount passes its limit. No sum is formed, so none can wrap.

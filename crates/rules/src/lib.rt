@@ -9,7 +9,7 @@ pub use judging::judge;
 use refusals::Refusal;
 
 // Whether a request may be carried out, or which rule bars it.
-pub enum Verdict {
+pub enum Ruling {
     Free,
     Barred(Refusal),
 }

@@ -8,7 +8,7 @@ use mathlib.Core.List.{List, [], _∷_, _++_, List·Memᴰ, List·Memᴰ·head, 
 use Rattle.records.specs.declared.Tested.the-variants.{Passed}
 use Rattle.records.specs.Page.{zeroSummary}
 use Rattle.answers.specs.Design.{Design}
-use Rattle.answers.specs.Hashing.{nextSummary, binding, bindingIn}
+use Rattle.answers.specs.Hashing.{nextSummary, bindingOf, bindingIn}
 use Rattle.answers.specs.Judging.{good, performVerdict, viewVerdict}
 use Rattle.answers.specs.Answers.{openTests}
 use Rattle.answers.specs.Edition.{thisEdition}
@@ -31,7 +31,7 @@ messages-alone = rw (state-0-is, state-a-is, summary-is, binding-0-is, binding-a
 module _ (D : Design) (fresh room l request m after state shown : List ℕ) (rack : ℕ) (one : openTests D fresh room ≡ Passed)
     (two : performVerdict D fresh l request room ≡ good state) (page : D .withSummary fresh (nextSummary D (D .summary l) request) ≡ after)
     (three : viewVerdict D after m rack ≡ good shown)
-    (first : bindingIn D l ≡ binding D zeroSummary (D .firstBytes)) (next : bindingIn D m ≡ binding D (nextSummary D (D .summary l) request) state) where
+    (first : bindingIn D l ≡ bindingOf D zeroSummary (D .firstBytes)) (next : bindingIn D m ≡ bindingOf D (nextSummary D (D .summary l) request) state) where
   found-answered : Unforged (λ d. d .found) D fresh (steps room l request m rack)
   found-answered =
       let p = page-1 D fresh room l request m after state shown rack one two page three in
@@ -46,11 +46,11 @@ module _ (D : Design) (fresh room l request m after state shown : List ℕ) (rac
 
 -- ---- the premises, and what follows
 
-first-bound : bindingIn thisEdition record-0 ≡ binding thisEdition zeroSummary (thisEdition .firstBytes)
+first-bound : bindingIn thisEdition record-0 ≡ bindingOf thisEdition zeroSummary (thisEdition .firstBytes)
 unfolding computing
 first-bound = refl
 
-next-bound : bindingIn thisEdition record-a ≡ binding thisEdition (nextSummary thisEdition (thisEdition .summary record-0) a) state-a
+next-bound : bindingIn thisEdition record-a ≡ bindingOf thisEdition (nextSummary thisEdition (thisEdition .summary record-0) a) state-a
 unfolding computing
 next-bound = rw summary-is refl
 

@@ -15,7 +15,7 @@ use Rattle.racks.specs.Figures.{percent, totalStored}
 use Rattle.requests.specs.Layout.{bytesOfRequest}
 use Rattle.requests.specs.Formed.{rightForm, rightOther, rightAmount, wellFormed}
 use Rattle.requests.specs.Requests.{requestBy, requestOf, readRequest}
-use Rattle.rules.specs.Rules.{overCapacity, overStored, overLimit, verdict, carryOut}
+use Rattle.rules.specs.Rules.{overCapacity, overStored, overLimit, ruling, carryOut}
 use Rattle.rules.specs.Replay.{book}
 use Rattle.records.specs.declared.Tested.{Tested}
 use Rattle.records.specs.declared.Tested.the-variants.{Passed}
@@ -33,7 +33,7 @@ use Rattle.sha256.specs.Computation.{H₀, hashes, digest, sha256}
 use Rattle.hmac.specs.Hmac.{_⊕_, K₀, hmac}
 use Rattle.bindings.specs.Hashed.{authenticatorOf}
 use Rattle.answers.specs.Design.{Design}
-use Rattle.answers.specs.Hashing.{nextSummary, binding, bindingIn}
+use Rattle.answers.specs.Hashing.{nextSummary, bindingOf, bindingIn}
 use Rattle.answers.specs.Rows.{Origin}
 use Rattle.answers.specs.Judging.{Verdict, good, performVerdict, viewVerdict}
 use Rattle.answers.specs.Answers.{openTests, openedBy, opened, answeredBy, performed, viewedBy, viewed}
@@ -119,7 +119,7 @@ room = replicate 451 0
 
 -- to unfold this is to unfold all but the hash
 unfoldable pub computing : Unit {0}
-unfolding zeroSummary openTests opened performed viewed performVerdict viewVerdict same part over beFrom be bytesOf tested rightSize rightVersion rightState goodState goodRack stateOf rackOf bytesOfRack bytesOfState bytesOfRequest firstState percent totalStored rightForm rightOther rightAmount wellFormed requestBy requestOf readRequest overCapacity overStored overLimit verdict carryOut book servedBytes storedAfter recordOf
+unfolding zeroSummary openTests opened performed viewed performVerdict viewVerdict same part over beFrom be bytesOf tested rightSize rightVersion rightState goodState goodRack stateOf rackOf bytesOfRack bytesOfState bytesOfRequest firstState percent totalStored rightForm rightOther rightAmount wellFormed requestBy requestOf readRequest overCapacity overStored overLimit ruling carryOut book servedBytes storedAfter recordOf
 computing = tt
 
 -- and this the hash and the MAC
@@ -200,7 +200,7 @@ module _ (D : Design) (fresh room l request m after state shown : List ℕ) (rac
   did : RunDid D fresh (steps room l request m rack)
       (recordMessages D m ++ (recordMessages D l ++ answerMessages D (Origin.from l) (request ∷ []) state) ++ boundMessages D zeroSummary (D .firstBytes))
       (m ∷ l ∷ []) (m ∷ l ∷ [])
-      (binding D (nextSummary D (D .summary l) request) state ∷ binding D zeroSummary (D .firstBytes) ∷ []) (request ∷ [])
+      (bindingOf D (nextSummary D (D .summary l) request) state ∷ bindingOf D zeroSummary (D .firstBytes) ∷ []) (request ∷ [])
   did =
       record {
         hashes = rw (page-1, page-2, three, two, one) refl;

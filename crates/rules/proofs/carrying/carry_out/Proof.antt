@@ -1,6 +1,6 @@
 -- `carry_out` meets its contract: kinds 1 to 3 put one rack, and a move puts two, one after the other. Assumes nothing.
 use mathlib.Core.Path.{refl}
-use Rattle.rules.proofs.Verdicts.{free-charge, free-discharge, free-move}
+use Rattle.rules.proofs.Rulings.{free-charge, free-discharge, free-move}
 use Rattle.rules.proofs.InPlace.{holds, carried-one, halfway, carried-move}
 use borrow.Author.Needs.{needs}
 use Rattle.rules.proofs.carrying.carry_out.Statement.{statement}

@@ -8,9 +8,9 @@ use borrow.Author.Tests.{lt-ltb, le-ltb}
 use Rattle.racks.specs.Rule.{flowLimit}
 use Rattle.refusals.specs.declared.Refusal.the-variants.{Limit}
 use Rattle.requests.specs.declared.Request.the-variants.{Move}
-use Rattle.rules.specs.declared.Verdict.the-variants.{Free, Barred}
-use Rattle.rules.specs.Rules.{overCapacity, overStored, verdict}
-use Rattle.rules.proofs.Tests.{verdict-is, limit-is}
+use Rattle.rules.specs.declared.Ruling.the-variants.{Free, Barred}
+use Rattle.rules.specs.Rules.{overCapacity, overStored, ruling}
+use Rattle.rules.proofs.Tests.{ruling-is, limit-is}
 use borrow.Author.Needs.{needs}
 use Rattle.rules.proofs.judging.on_move.Statement.{statement}
 use Rattle.rules.proofs.judging.on_move.Tie as tie
@@ -20,24 +20,24 @@ unfolding overCapacity
 returns c =
     let s = c .before .before .before .before .args in
     let tested : c .before .passes .result ≡ ltb (s .o .capacity) (s .o .stored + s .amount) = c .before .passes .ensures in
-    verdict-is _ _ (sym tested ∙ c .if1 .taken) refl refl
+    ruling-is _ _ (sym tested ∙ c .if1 .taken) refl refl
 
 returns-2 : tie.Need-returns-2
 unfolding overCapacity overStored
 returns-2 c =
     let nine = c .before .before in
-    verdict-is _ _ (sym (nine .before .passes .ensures) ∙ nine .if1 .left) (lt-ltb _ _ (c .if2 .taken)) refl
+    ruling-is _ _ (sym (nine .before .passes .ensures) ∙ nine .if1 .left) (lt-ltb _ _ (c .if2 .taken)) refl
 
 -- past 9 and 10 the two halves of 11 decide
 abbrev start : tie.Else2 → tie.Start
 start c = c .before .before .before .before .before .before
 
 eleven : (c : tie.Else2) {b d : Bool} → ltb flowLimit (start c .args .o .taken + start c .args .amount) ≡ b → ltb flowLimit (start c .args .r .given + start c .args .amount) ≡ d
-    → cond (b || d) (Barred Limit) Free ≡ verdict (start c .args .r ∷ start c .args .o ∷ []) (Move 0 1 (start c .args .amount))
+    → cond (b || d) (Barred Limit) Free ≡ ruling (start c .args .r ∷ start c .args .o ∷ []) (Move 0 1 (start c .args .amount))
 unfolding overCapacity overStored
 eleven c taken given =
     let nine = c .before .before in
-    verdict-is _ _ (sym (nine .before .passes .ensures) ∙ nine .if1 .left) (le-ltb _ _ (c .if2 .left)) (limit-is _ 0 1 _ taken given)
+    ruling-is _ _ (sym (nine .before .passes .ensures) ∙ nine .if1 .left) (le-ltb _ _ (c .if2 .left)) (limit-is _ 0 1 _ taken given)
 
 returns-3 : tie.Need-returns-3
 returns-3 c =

@@ -19,7 +19,7 @@ use Rattle.records.specs.Record.{recordSize, summary}
 use Rattle.records.specs.Edition.{recordVersion}
 use Rattle.records.proofs.PageBytes.{page-summary, page-key, length-page}
 use Rattle.answers.specs.Hashing.{nextSummary, boundRecord}
-use Rattle.answers.specs.Answers.{Opened, opened, Performed, performed, repeated}
+use Rattle.answers.specs.Answers.{Outcome, opened, Performed, performed, repeated}
 use Rattle.answers.specs.Edition.{thisEdition, servedBytes}
 use Rattle.answers.specs.Written.{Reads, Stands, front}
 use Rattle.answers.specs.Accepting.{Passing}
@@ -46,7 +46,7 @@ pub accepted-open : (key answer : List ℕ) → length key ≡ hashSize → reco
 accepted-open key answer k fits =
     let passed = open-passes thisEdition (pageOf zeroSummary key) answer
     (record { right = eq-eqb _ _ (length-page zeroSummary key length-zeroSummary k); room = fits; fresh = page-summary zeroSummary key length-zeroSummary k }) in
-    ap (λ (p : Opened). p .number) (open-is thisEdition (pageOf zeroSummary key) answer passed)
+    ap (λ (p : Outcome). p .number) (open-is thisEdition (pageOf zeroSummary key) answer passed)
 
 pub fresh-buffer : (key : List ℕ) → length key ≡ hashSize → Bytes key → Buffer (pageOf zeroSummary key)
 unfolding zeroSummary

@@ -15,7 +15,7 @@ use Rattle.records.specs.Page.{hashSize, pageKey, pageOf, zeroSummary}
 use Rattle.records.specs.Record.{recordSize}
 use Rattle.records.specs.Edition.{recordVersion}
 use Rattle.records.proofs.PageBytes.{page-key}
-use Rattle.answers.specs.Answers.{Opened, opened, performed, repeated, Viewed, Resumed}
+use Rattle.answers.specs.Answers.{Outcome, opened, performed, repeated, Viewed, Resumed}
 use Rattle.answers.specs.Edition.{thisEdition}
 use Rattle.answers.specs.Written.{front}
 use Rattle.answers.specs.Strength.{Buffer, TurnedAway, OthersTurnedAway}
@@ -97,10 +97,10 @@ others-turned-away =
     let found : Buffer (look .page) × Buffer (look .offered) × Buffer (look .offered) = (look .buffers .0, look .buffers .1, look .buffers .1) in
     record {
       openRefuses = λ f refuses meets.
-          refuses (o .page) (o .answer) (o .buffers) (ap (λ (p : Opened). p .number) (meets (o .page) (o .answer) (o .buffers)) ∙ o .accepted);
+          refuses (o .page) (o .answer) (o .buffers) (ap (λ (p : Outcome). p .number) (meets (o .page) (o .answer) (o .buffers)) ∙ o .accepted);
       openSilent = λ f silent meets.
           let one = ap (λ (b : List ℕ). byteOf (front thisEdition b)) (silent (pageOf zeroSummary aKey) onesBuffer fresh) ∙ ones-byte in
-          let z = ap (λ (p : Opened). byteOf (front thisEdition (p .answer))) (meets (pageOf zeroSummary aKey) onesBuffer fresh) ∙ opened-byte in
+          let z = ap (λ (p : Outcome). byteOf (front thisEdition (p .answer))) (meets (pageOf zeroSummary aKey) onesBuffer fresh) ∙ opened-byte in
           absurd (omega arith);
       viewRefuses = λ f refuses meets.
           refuses (look .page) (look .offered) 0 shown

@@ -19,7 +19,8 @@ use Rattle.answers.specs.Judging.{unless, andThen, Verdict, number, perf
 
 -- ---- open
 
-pub record Opened : Type 0 where
+-- a number, and what page and answer buffer hold then; a C caller gets no more of perform and repeat either
+pub record Outcome : Type 0 where
   pub number : ℕ
   pub page : List ℕ
   pub answer : List ℕ
@@ -32,11 +33,11 @@ openTests D page answer =
     (unless (same (D .pageSummary page) zeroSummary) Fresh))
 
 -- the first record, with summary zero and its authenticator; the page stays as it is
-abbrev pub openedBy : Design → List ℕ → List ℕ → Tested → Opened
+abbrev pub openedBy : Design → List ℕ → List ℕ → Tested → Outcome
 openedBy D page answer (Refused r) = record { number = numberOf r; page = page; answer = answer }
 openedBy D page answer Passed = record { number = 0; page = page; answer = over 0 (boundRecord D page zeroSummary (D .firstBytes)) answer }
 
-unfoldable pub opened : Design → List ℕ → List ℕ → Opened
+unfoldable pub opened : Design → List ℕ → List ℕ → Outcome
 opened D page answer = openedBy D page answer (openTests D page answer)
 
 -- ---- perform and repeat

@@ -10,7 +10,7 @@ use Rattle.racks.specs.Edition.{racks}
 use Rattle.records.specs.Page.{pageKey, zeroSummary}
 use Rattle.records.specs.Record.{summary}
 use Rattle.answers.specs.Hashing.{boundRecord}
-use Rattle.answers.specs.Answers.{Opened, opened, Performed, Viewed, viewed, Resumed, resumed}
+use Rattle.answers.specs.Answers.{Outcome, opened, Performed, Viewed, viewed, Resumed, resumed}
 use Rattle.answers.specs.Edition.{thisEdition}
 use Rattle.answers.specs.Written.{front}
 
@@ -70,7 +70,7 @@ pub record TurnedAway (call : Version) : Type 0 where
 -- ---- the other calls
 
 abbrev pub OpenVersion : Type 0
-OpenVersion = List ℕ → List ℕ → Opened
+OpenVersion = List ℕ → List ℕ → Outcome
 
 abbrev pub MeetsOpen : OpenVersion → Type 0
 MeetsOpen f = (page answer : List ℕ) → Buffer page × Buffer answer → f page answer ≡ opened thisEdition page answer

@@ -7,11 +7,11 @@ use Rattle.records.specs.Page.{pageKey, pageOf}
 use Rattle.records.specs.Record.{summary}
 use Rattle.answers.specs.Design.{Design}
 use Rattle.answers.specs.Hashing.{nextSummary}
-use Rattle.answers.specs.Answers.{Opened, opened, Performed, performed, repeated, noFigures, viewed}
+use Rattle.answers.specs.Answers.{Outcome, opened, Performed, performed, repeated, noFigures, viewed}
 use Rattle.answers.specs.Edition.{design}
 
 -- the page and the answer buffer are as they were, and the figure is 0
-pub record OpenUnchanged (page answer : List ℕ) (o : Opened) : Type 0 where
+pub record OpenUnchanged (page answer : List ℕ) (o : Outcome) : Type 0 where
   pub pageStays : o .page ≡ page
   pub answerStays : o .answer ≡ answer
 

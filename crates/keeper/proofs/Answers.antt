@@ -9,7 +9,7 @@ use Rattle.refusals.specs.declared.Refusal.{Refusal}
 use Rattle.refusals.specs.declared.Refusal.the-variants.{Page, Answer, Record, Version, State, Request, Authenticator, Current, Capacity, Stored, Limit, Total, Fresh}
 use Rattle.refusals.specs.Numbers.{numberOf}
 use Rattle.answers.specs.Design.{Figures}
-use Rattle.answers.specs.Answers.{Opened as OpenedAs, Performed, Viewed, Resumed}
+use Rattle.answers.specs.Answers.{Outcome, Performed, Viewed, Resumed}
 use Rattle.opens.specs.declared.OpenAnswer.{OpenAnswer}
 use Rattle.opens.specs.declared.OpenAnswer.the-variants.{Opened, Refused as RefusedOpen}
 use Rattle.opens.specs.Told.{openNumberTold, toldOpen}
@@ -99,7 +99,7 @@ view-answers (RefusedView r) (RefusedView s) e f = ap RefusedView (numbers-apart
 -- ---- what is told of an outcome fixes it
 
 pub open-told : (a b : OpenAnswer) (p x q y : List ℕ) → toldOpen a p x ≡ toldOpen b q y → (a ≡ b) × (x ≡ y)
-open-told a b p x q y e = (open-answers a b (ap (λ (o : OpenedAs). o .number) e), ap (λ (o : OpenedAs). o .answer) e)
+open-told a b p x q y e = (open-answers a b (ap (λ (o : Outcome). o .number) e), ap (λ (o : Outcome). o .answer) e)
 
 pub perform-told : (a b : PerformAnswer) (p x q y : List ℕ) → told a p x ≡ told b q y → (a ≡ b) × ((p ≡ q) × (x ≡ y))
 perform-told a b p x q y e =

@@ -5,7 +5,7 @@ use Prim.Native.Nat.{ℕ}
 use mathlib.Core.List.{List, []}
 use Rattle.refusals.specs.declared.Refusal.{Refusal}
 use Rattle.refusals.specs.Numbers.{numberOf}
-use Rattle.answers.specs.Answers.{Opened, Performed, Viewed, Resumed, resumedNumber}
+use Rattle.answers.specs.Answers.{Outcome, Performed, Viewed, Resumed, resumedNumber}
 use Rattle.opens.specs.declared.OpenAnswer.{OpenAnswer}
 use Rattle.opens.specs.Told.{openNumberTold, toldOpen}
 use Rattle.calls.specs.declared.PerformAnswer.{PerformAnswer}
@@ -14,12 +14,12 @@ use Rattle.views.specs.declared.ViewAnswer.{ViewAnswer}
 use Rattle.views.specs.declared.Which.{Which}
 use Rattle.views.specs.Told.{viewNumberTold, figuresTold, toldView, toldWhich}
 use Rattle.keeper.specs.Lent.{Lent, handedBack}
-use Rattle.keeper.specs.Numbers.{Outcome, openOutcome, performOutcome}
+use Rattle.keeper.specs.Numbers.{performOutcome}
 
 -- open, perform and repeat: a number that is the answer's own
-pub opened-to-c : (a b : OpenAnswer) (x : ℕ) (page after : List ℕ) (o : Opened) → toldOpen a page after ≡ o → a ≡ b → x ≡ openNumberTold b
-    → _≡_ {A = Outcome} (record { number = x; page = page; answer = after }) (openOutcome o)
-opened-to-c a b x page after o is case number = rw (number, ← case) (ap openOutcome is)
+pub opened-to-c : (a b : OpenAnswer) (x : ℕ) (page after : List ℕ) (o : Outcome) → toldOpen a page after ≡ o → a ≡ b → x ≡ openNumberTold b
+    → _≡_ {A = Outcome} (record { number = x; page = page; answer = after }) o
+opened-to-c a b x page after o is case number = rw (number, ← case) is
 
 pub performed-to-c : (a b : PerformAnswer) (x : ℕ) (page after : List ℕ) (p : Performed) → told a page after ≡ p → a ≡ b → x ≡ numberTold b
     → _≡_ {A = Outcome} (record { number = x; page = page; answer = after }) (performOutcome p)

@@ -9,7 +9,7 @@ use denote.Triple.Clauses.{Lasts, AtExit, atExit}
 use denote.Ref.{now}
 use borrow.Fn.Kinds.{Dens, endedOf, resT}
 use Rattle.keeper.specs.Lent.{Lent}
-use Rattle.keeper.specs.Numbers.{Outcome}
+use Rattle.answers.specs.Answers.{Outcome}
 use Rattle.keeper.proofs.Answers.{open-told, perform-told, view-told}
 use Rattle.keeper.proofs.«open».Kinds as open-kinds
 use Rattle.keeper.proofs.«open».Reads as open-reads

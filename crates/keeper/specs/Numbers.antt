@@ -2,18 +2,10 @@
 -- repeat stands in the record written. Assumes nothing.
 use Prim.Native.Nat.{ℕ}
 use mathlib.Core.List.{List}
-use Rattle.answers.specs.Answers.{Opened, Performed}
-
-pub record Outcome : Type 0 where
-  pub number : ℕ
-  pub page : List ℕ
-  pub answer : List ℕ
+use Rattle.answers.specs.Answers.{Outcome, Performed}
 
 abbrev pub outcome : ℕ → List ℕ → List ℕ → Outcome
 outcome number page answer = record { number = number; page = page; answer = answer }
-
-abbrev pub openOutcome : Opened → Outcome
-openOutcome o = outcome (o .number) (o .page) (o .answer)
 
 abbrev pub performOutcome : Performed → Outcome
 performOutcome p = outcome (p .number) (p .page) (p .answer)

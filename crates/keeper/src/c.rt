@@ -14,11 +14,11 @@ use views::choose;
 ghost use mathlib.Core.Path.{_≡_};
 ghost use Rattle.answers.specs.Answers.{opened, performed, repeated, viewed, resumed, resumedNumber};
 ghost use Rattle.answers.specs.Edition.{thisEdition};
-ghost use Rattle.keeper.specs.Numbers.{outcome, openOutcome, performOutcome};
+ghost use Rattle.keeper.specs.Numbers.{outcome, performOutcome};
 
 #[no_mangle]
 pub extern "C" fn keeper_open(page: &[u8], answer: &mut [u8]) -> u32
-    ensures { λ r. ⌜ outcome r (now (page .entry)) (now (answer .exit)) ≡ openOutcome (opened thisEdition (now (page .entry)) (now (answer .entry))) ⌝ }
+    ensures { λ r. ⌜ outcome r (now (page .entry)) (now (answer .exit)) ≡ opened thisEdition (now (page .entry)) (now (answer .entry)) ⌝ }
 {
     match open(page, answer) {
         OpenAnswer::Opened => 0,

@@ -60,13 +60,16 @@ number stale = numberOf Current
 number (barred r) = numberOf r
 number (good state) = 0
 
--- tests 1 to 6 of perform and of repeat
+-- tests 1 to 6 of perform and of repeat, from what the page, the room, the record and the request say, each by itself
+abbrev pub offerTests : Bool → Bool → Tested → Bool → Tested
+offerTests right room tested formed =
+    andThen (unless right Page)
+    (andThen (unless room Answer)
+    (andThen tested
+    (unless formed Request)))
+
 abbrev pub offered : Design → List ℕ → List ℕ → List ℕ → List ℕ → Tested
-offered D page l request answer =
-    andThen (unless (D .rightPage page) Page)
-    (andThen (unless (leb (D .recordSize) (length answer)) Answer)
-    (andThen (D .tested l)
-    (unless (D .formed request) Request)))
+offered D page l request answer = offerTests (D .rightPage page) (leb (D .recordSize) (length answer)) (D .tested l) (D .formed request)
 
 -- perform: current is a record whose summary is the page's
 unfoldable pub performVerdict : Design → List ℕ → List ℕ → List ℕ → List ℕ → Verdict
@@ -78,12 +81,15 @@ unfoldable pub repeatVerdict : Design → List ℕ → List ℕ → List ℕ →
 repeatVerdict D page l request answer =
     judged (offered D page l request answer) (valid D page l) (same (nextSummary D (D .summary l) request) (D .pageSummary page)) (D .served (D .stateBytes l) request)
 
--- tests 1 to 6 of view
+-- tests 1 to 6 of view, from what the page, the record and the rack say
+abbrev pub lookTests : Bool → Tested → Bool → Tested
+lookTests right tested inside =
+    andThen (unless right Page)
+    (andThen tested
+    (unless inside Request))
+
 abbrev pub looked : Design → List ℕ → List ℕ → ℕ → Tested
-looked D page l rack =
-    andThen (unless (D .rightPage page) Page)
-    (andThen (D .tested l)
-    (unless (ltb rack (D .racks)) Request))
+looked D page l rack = lookTests (D .rightPage page) (D .tested l) (ltb rack (D .racks))
 
 -- test 12: the total fits four bytes
 abbrev pub shown : Design → List ℕ → ℕ → Served

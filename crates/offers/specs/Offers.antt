@@ -4,7 +4,6 @@ use Prim.Native.Nat.{ℕ, _≤_, _<_}
 use mathlib.Core.List.{List}
 use lib.ListN.{getD}
 use lib.Dec.{eqb, leb, ltb}
-use Rattle.refusals.specs.declared.Refusal.the-variants.{Page, Answer, Request as RequestRefusal}
 use Rattle.requests.specs.declared.Request.{Request}
 use Rattle.requests.specs.declared.Reading.the-variants.{Formed}
 use Rattle.requests.specs.Formed.{wellFormed}
@@ -15,7 +14,7 @@ use Rattle.records.specs.Page.{pageSize}
 use Rattle.records.specs.Record.{recordSize}
 use Rattle.records.specs.Tests.{tested}
 use Rattle.answers.specs.Design.{Design}
-use Rattle.answers.specs.Judging.{unless, andThen}
+use Rattle.answers.specs.Judging.{offerTests, lookTests}
 use Rattle.answers.specs.Edition.{design}
 use Rattle.offers.specs.declared.Offer.{Offer}
 use Rattle.offers.specs.declared.Offer.the-variants.{Formed as FormedOffer, Refused as RefusedOffer}
@@ -26,18 +25,11 @@ designOf n header = design n (getD header 2 0)
 
 -- `offered` of the calls' definitions, for a page and an answer buffer of these lengths
 abbrev pub offeredAt : ℕ → ℕ → ℕ → ℕ → List ℕ → List ℕ → Tested
-offeredAt n v page room l request =
-    andThen (unless (eqb page pageSize) Page)
-    (andThen (unless (leb (recordSize n) room) Answer)
-    (andThen (tested n v l)
-    (unless (wellFormed n request) RequestRefusal)))
+offeredAt n v page room l request = offerTests (eqb page pageSize) (leb (recordSize n) room) (tested n v l) (wellFormed n request)
 
 -- `looked`, for a page of this length
 abbrev pub lookedAt : ℕ → ℕ → ℕ → List ℕ → ℕ → Tested
-lookedAt n v page l rack =
-    andThen (unless (eqb page pageSize) Page)
-    (andThen (tested n v l)
-    (unless (ltb rack n) RequestRefusal))
+lookedAt n v page l rack = lookTests (eqb page pageSize) (tested n v l) (ltb rack n)
 
 -- an offer from what the tests find and what the request asks
 abbrev pub offerBy : Tested → Request → Offer

@@ -1,4 +1,4 @@
--- What is proved of every run.
+-- What is proved of every run, over any design; of the keeper that ships; and that an actual run meets the premises.
 pub mod Paths
 pub mod Steps
 pub mod Verdicts

@@ -28,23 +28,12 @@ use Rattle.histories.specs.Premises.{FewerHashPremise}
 use Rattle.histories.specs.Duty.{Retried, ByPerform, ByRepeat, Duty, NoPerform, DutyWithoutPerform}
 use Rattle.histories.proofs.Paths.{endOf, never-back}
 use Rattle.histories.proofs.Steps.{each-before}
-use Rattle.histories.proofs.Verdicts.{Past, past-good, perform-past, perform-good, perform-accepted}
+use Rattle.histories.proofs.Verdicts.{differ, judged-stale, Past, past-good, perform-past, perform-good, perform-accepted}
 use Rattle.histories.proofs.Inversions.{Taken, Led, Moved, stays, moves, moved-step}
 use Rattle.histories.proofs.Invariant.{neededIn}
 use Rattle.histories.proofs.Moments.{stands-at, needed-at}
 
 -- ---- the two retries
-
--- lists that differ are not the same
-differ : (a b : List ℕ) → (a ≡ b → ⊥) → same a b ≡ false
-differ a b h = by-test (same a b) refl
-  where
-    by-test : (t : Bool) → same a b ≡ t → same a b ≡ false
-    by-test true e = absurd (h (same-iff a b .0 e))
-    by-test false e = e
-
-judged-stale : {t : Tested} {valid current : Bool} (s : Served) → t ≡ Passed → valid ≡ true → current ≡ false → judged t valid current s ≡ stale
-judged-stale s tests seven eight = rw (tests, seven, eight) refl
 
 judged-good : {t : Tested} {valid current : Bool} {s : Served} (state : List ℕ) → t ≡ Passed → valid ≡ true → current ≡ true → s ≡ Served.carried state
     → judged t valid current s ≡ good state

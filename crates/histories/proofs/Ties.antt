@@ -95,14 +95,14 @@ past-eight l (good state) o = record { accepted = λ e. refl; behind = λ e. ref
 -- ---- the calls
 
 module _ (D : Design) (page l : List ℕ) where
-  answered-number : (request answer after : List ℕ) (v : Verdict) → answeredBy D page l request answer after v .number ≡ number v
+  pub answered-number : (request answer after : List ℕ) (v : Verdict) → answeredBy D page l request answer after v .number ≡ number v
   answered-number request answer after (early r) = refl
   answered-number request answer after forged = refl
   answered-number request answer after stale = refl
   answered-number request answer after (barred r) = refl
   answered-number request answer after (good state) = refl
 
-  viewed-number : (rack : ℕ) (v : Verdict) → viewedBy D rack v .number ≡ number v
+  pub viewed-number : (rack : ℕ) (v : Verdict) → viewedBy D rack v .number ≡ number v
   viewed-number rack (early r) = refl
   viewed-number rack forged = refl
   viewed-number rack stale = refl

@@ -56,6 +56,18 @@ good-judged Passed true false s state e = let z : _≡_ {A = ℕ} 0 1 = cc in ab
 good-judged Passed true true (Served.carried x) state e = cc
 good-judged Passed true true (Served.barred r) state e = let z : _≡_ {A = ℕ} 0 1 = cc in absurd (omega arith)
 
+-- lists that differ are not the same
+pub differ : (a b : List ℕ) → (a ≡ b → ⊥) → same a b ≡ false
+differ a b h = by-test (same a b) refl
+  where
+    by-test : (t : Bool) → same a b ≡ t → same a b ≡ false
+    by-test true e = absurd (h (same-iff a b .0 e))
+    by-test false e = e
+
+-- a record past test 7 that is not current is stale
+pub judged-stale : {t : Tested} {valid current : Bool} (s : Served) → t ≡ Passed → valid ≡ true → current ≡ false → judged t valid current s ≡ stale
+judged-stale s tests seven eight = rw (tests, seven, eight) refl
+
 -- a good verdict is past test 8
 pub past-good : (v : Verdict) (state : List ℕ) → v ≡ good state → past v ≡ true
 past-good v state e = rw e refl

@@ -1,12 +1,16 @@
 -- What is proved of every run under the premises: the third condition, and the afternoon itself. Each is a statement about the definitions
 -- that the contracts of the calls cite. A run's older part is what went before a moment in it.
 use mathlib.Core.Path.{_≡_}
+use mathlib.Core.Bool.{true}
 use Prim.Native.Nat.{ℕ, _<_, _≤_}
 use mathlib.Core.List.{List, _++_, List·Memᴰ, reverse}
 use Rattle.refusals.specs.declared.Refusal.the-variants.{Current}
 use Rattle.refusals.specs.Numbers.{numberOf}
+use Rattle.records.specs.declared.Tested.the-variants.{Passed}
 use Rattle.answers.specs.Design.{Design, Served}
-use Rattle.answers.specs.Hashing.{bindingIn}
+use Rattle.answers.specs.Hashing.{bindingIn, valid}
+use Rattle.answers.specs.Judging.{offered, looked}
+use Rattle.answers.specs.Unchanged.{Unchanged}
 use Rattle.answers.specs.Rows.{replayed}
 use Rattle.answers.specs.Answers.{performed, viewed, Resumed, resumed}
 use Rattle.histories.specs.Folds.{AtEach}
@@ -68,11 +72,14 @@ pub record UpToEight (number : ℕ) : Type 0 where
   pub refused : 0 < number
   pub before : number ≤ numberOf Current
 
--- a record for the summary of an earlier moment, since which the page has moved on: perform and view refuse it, with 8 if no test before
--- it applies, and resume does not hand it back, from RAM or from disk
+-- a record for the summary of an earlier moment, since which the page has moved on: perform and view refuse it by test 8 at the latest,
+-- perform changes nothing, the answer is 8 where the tests before 8 pass, and resume does not hand it back, from RAM or from disk
 pub record RefusedAsOld (D : Design) (page l : List ℕ) : Type 0 where
-  pub perform : (request answer : List ℕ) → UpToEight (performed D page l request answer .number)
+  pub perform : (request answer : List ℕ) → UpToEight (performed D page l request answer .number) × Unchanged page answer (performed D page l request answer)
+  pub performEight : (request answer : List ℕ) → offered D page l request answer ≡ Passed → valid D page l ≡ true
+      → performed D page l request answer .number ≡ numberOf Current
   pub view : (rack : ℕ) → UpToEight (viewed D page l rack .number)
+  pub viewEight : (rack : ℕ) → looked D page l rack ≡ Passed → valid D page l ≡ true → viewed D page l rack .number ≡ numberOf Current
   pub inRam : (onDisk : List ℕ) → resumed D page l onDisk ≡ Resumed.ram → ⊥
   pub onDisk : (inRam : List ℕ) → resumed D page inRam l ≡ Resumed.disk → ⊥
 

@@ -113,8 +113,8 @@
  *   128 bytes below the stack pointer left alone by interrupts), memset, and nothing else. It has no data that is
  *   written. The bytes of stack that a call takes, measured, the return address among them:
  *
- *     keeper_open 920       keeper_perform 1176      keeper_repeat 1160
- *     keeper_view and each of its figures 1016       keeper_resume 968
+ *     keeper_open 920       keeper_perform 1160      keeper_repeat 1144
+ *     keeper_view and each of its figures 1000       keeper_resume 936
  *
  * For C99 and C++.
  */

@@ -14,9 +14,11 @@ use Rattle.racks.specs.Racks.{firstState}
 use Rattle.racks.specs.Layout.{bytesOfState}
 use Rattle.racks.specs.Edition.{racks}
 use Rattle.sha256.proofs.DigestLaws.{bytes-sha256}
+use Rattle.records.specs.declared.Form.the-variants.{Version1}
+use Rattle.records.proofs.FormLaws.{fits}
+use Rattle.records.specs.Form.{version1}
 use Rattle.records.specs.Page.{hashSize, pageSize, pageSummary, pageKey, pageOf, zeroSummary}
 use Rattle.records.specs.Record.{recordSize, summary}
-use Rattle.records.specs.Edition.{recordVersion}
 use Rattle.records.proofs.PageBytes.{page-summary, page-key, length-page}
 use Rattle.answers.specs.Hashing.{nextSummary, boundRecord}
 use Rattle.answers.specs.Answers.{Outcome, opened, Performed, performed, repeated}
@@ -35,14 +37,14 @@ use Rattle.answers.proofs.Buffers.{answer-buffer, asked-buffer, page-bu
 
 -- a buffer of zeros, with just the room that is needed
 abbrev pub zeros : List ℕ
-zeros = replicate (recordSize racks) 0
+zeros = replicate (recordSize version1) 0
 
-room : recordSize racks ≤ length zeros
-room = omega (arith, length-replicate {A = ℕ} (recordSize racks) 0)
+room : recordSize version1 ≤ length zeros
+room = omega (arith, length-replicate {A = ℕ} (recordSize version1) 0)
 
 -- ---- open, on a fresh page
 
-pub accepted-open : (key answer : List ℕ) → length key ≡ hashSize → recordSize racks ≤ length answer → opened thisEdition (pageOf zeroSummary key) answer .number ≡ 0
+pub accepted-open : (key answer : List ℕ) → length key ≡ hashSize → recordSize version1 ≤ length answer → opened thisEdition (pageOf zeroSummary key) answer .number ≡ 0
 accepted-open key answer k fits =
     let passed = open-passes thisEdition (pageOf zeroSummary key) answer
     (record { right = eq-eqb _ _ (length-page zeroSummary key length-zeroSummary k); room = fits; fresh = page-summary zeroSummary key length-zeroSummary k }) in
@@ -73,12 +75,12 @@ movedOn s = nextSummary thisEdition s asked
 
 module _ (key s : List ℕ) (k : length key ≡ hashSize) (w : length s ≡ hashSize) where
   pub first-stands : Stands thisEdition (pageOf s key) (firstBound key s) (bytesOfState (firstState racks))
-  first-stands = a-current-record racks recordVersion (lit< tt) (lit< tt) key s (bytesOfState (firstState racks)) k w (first-good racks)
+  first-stands = a-current-record version1 (fits Version1) key s (bytesOfState (firstState racks)) k w (first-good racks)
 
   -- how it reads on every page with the key
   pub first-reads : (page : List ℕ) → pageKey page ≡ key → Reads thisEdition page (firstBound key s) (bytesOfState (firstState racks)) s
   first-reads page e =
-      bound-reads racks recordVersion (pageOf s key) s (bytesOfState (firstState racks)) w (first-good racks .size) page (e ∙ sym (page-key s key w k))
+      bound-reads version1 (pageOf s key) s (bytesOfState (firstState racks)) w (first-good racks .size) page (e ∙ sym (page-key s key w k))
 
   -- it passes on every page with the key, if the summary that the call wants is the page's
   first-passes : (page wanted : List ℕ) → length page ≡ pageSize → pageKey page ≡ key → wanted ≡ pageSummary page
@@ -98,15 +100,15 @@ module _ (key s : List ℕ) (k : length key ≡ hashSize) (w : length s ≡ hash
   pub accepted-perform : performed thisEdition (pageOf s key) (firstBound key s) asked zeros .number ≡ 0
   accepted-perform =
       let keyIs = page-key s key w k in
-      let passes = first-passes (pageOf s key) (summary racks (firstBound key s)) (length-page s key w k) keyIs (first-reads (pageOf s key) keyIs .summaryIs ∙ sym (page-summary s key w k)) in
+      let passes = first-passes (pageOf s key) (summary version1 (firstBound key s)) (length-page s key w k) keyIs (first-reads (pageOf s key) keyIs .summaryIs ∙ sym (page-summary s key w k)) in
       ap (λ (p : Performed). p .number) (perform-is thisEdition (pageOf s key) (firstBound key s) asked zeros _ passes)
 
   -- repeat, on the page that holds that summary moved on by the request
   pub accepted-repeat : repeated thisEdition (pageOf (movedOn s) key) (firstBound key s) asked zeros .number ≡ 0
   accepted-repeat =
-      let wide = length-next racks recordVersion s asked in
+      let wide = length-next version1 s asked in
       let keyIs = page-key (movedOn s) key wide k in
-      let passes = first-passes (pageOf (movedOn s) key) (movedOn (summary racks (firstBound key s))) (length-page (movedOn s) key wide k) keyIs
+      let passes = first-passes (pageOf (movedOn s) key) (movedOn (summary version1 (firstBound key s))) (length-page (movedOn s) key wide k) keyIs
       (ap movedOn (first-reads (pageOf (movedOn s) key) keyIs .summaryIs) ∙ sym (page-summary (movedOn s) key wide k)) in
       ap (λ (p : Performed). p .number) (repeat-is thisEdition (pageOf (movedOn s) key) (firstBound key s) asked zeros _ passes)
 
@@ -132,7 +134,7 @@ module _ (key s : List ℕ) (k : length key ≡ hashSize) (w : length s ≡ hash
 
     pub an-accepted-repeat : AcceptedCall (repeated thisEdition) key s
     an-accepted-repeat =
-        let wide = length-next racks recordVersion s asked in
+        let wide = length-next version1 s asked in
         let keyIs = page-key (movedOn s) key wide k in
         record {
           page = pageOf (movedOn s) key;
@@ -150,7 +152,7 @@ pub open-then-perform : (key : List ℕ) → length key ≡ hashSize
     → performed thisEdition (pageOf zeroSummary key) (front thisEdition (opened thisEdition (pageOf zeroSummary key) zeros .answer)) asked zeros .number ≡ 0
 open-then-perform key k =
     let page = pageOf zeroSummary key in
-    let w = reads-back racks recordVersion .opens page zeros (accepted-open key zeros k room) in
+    let w = reads-back version1 .opens page zeros (accepted-open key zeros k room) in
     let is : front thisEdition (opened thisEdition page zeros .answer) ≡ firstBound key zeroSummary =
     w .1 .is ∙ ap (λ (p : List ℕ). boundRecord thisEdition p zeroSummary (bytesOfState (firstState racks))) (open-page thisEdition page zeros) in
     ap (λ (l : List ℕ). performed thisEdition page l asked zeros .number) is ∙ accepted-perform key zeroSummary k length-zeroSummary

@@ -10,15 +10,14 @@ use Rattle.numbers.specs.Numbers.{Bytes}
 use Rattle.numbers.proofs.Bytes.{bytes-replicate}
 use Rattle.racks.specs.Racks.{State}
 use Rattle.racks.specs.Layout.{bytesOfState}
-use Rattle.racks.specs.Edition.{racks}
 use Rattle.racks.proofs.StateBytes.{bytes-bytesOfState}
 use Rattle.requests.proofs.Written.{length-written, bytes-written}
 use Rattle.sha256.proofs.DigestLaws.{bytes-sha256}
 use Rattle.hmac.specs.Hmac.{hmac}
 use Rattle.bindings.specs.Hashed.{authenticatorOf}
+use Rattle.records.specs.Form.{version1}
 use Rattle.records.specs.Page.{hashSize, pageOf}
 use Rattle.records.specs.Record.{stateSize, recordSize}
-use Rattle.records.specs.Edition.{recordVersion}
 use Rattle.records.proofs.PageBytes.{length-page, bytes-page}
 use Rattle.records.proofs.RecordBytes.{bytes-record}
 use Rattle.answers.specs.Hashing.{boundRecord}
@@ -28,8 +27,8 @@ use Rattle.answers.proofs.Records.{length-bound}
 use Rattle.answers.proofs.Witnesses.{asked}
 
 -- an answer buffer of one byte, with just the room that is needed
-pub answer-buffer : (x : ℕ) → x < 256 → Buffer (replicate (recordSize racks) x)
-answer-buffer x byte = record { bytes = bytes-replicate (recordSize racks) x byte; size = omega (arith, length-replicate (recordSize racks) x) }
+pub answer-buffer : (x : ℕ) → x < 256 → Buffer (replicate (recordSize version1) x)
+answer-buffer x byte = record { bytes = bytes-replicate (recordSize version1) x byte; size = omega (arith, length-replicate (recordSize version1) x) }
 
 -- the request
 pub asked-buffer : Buffer asked
@@ -45,10 +44,10 @@ module _ (s : List ℕ) (wide : length s ≡ hashSize) (bytes : Bytes s) where
   page-buffer key k b = record { bytes = bytes-page s key bytes b; size = omega (arith, length-page s key wide k) }
 
   -- a state bound to a summary
-  pub bound-buffer : (page : List ℕ) (state : State) → length (bytesOfState state) ≡ stateSize racks
+  pub bound-buffer : (page : List ℕ) (state : State) → length (bytesOfState state) ≡ stateSize version1
       → Buffer (boundRecord thisEdition page s (bytesOfState state))
   bound-buffer page state size =
       record {
-        bytes = bytes-record racks recordVersion (bytesOfState state) s _ (bytes-bytesOfState state) bytes (bytes-mac _ _);
-        size = rw (length-bound racks recordVersion page s (bytesOfState state) wide size) (lit< tt);
+        bytes = bytes-record version1 (bytesOfState state) s _ (bytes-bytesOfState state) bytes (bytes-mac _ _);
+        size = rw (length-bound version1 page s (bytesOfState state) wide size) (lit< tt);
       }

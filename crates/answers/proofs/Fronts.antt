@@ -9,6 +9,7 @@ use lib.ListN.{length, drop}
 use lib.Seq.{drop-at}
 use Rattle.numbers.specs.Parts.{over}
 use Rattle.numbers.proofs.Parts.{length-over, part-over}
+use Rattle.records.specs.Form.{Form}
 use Rattle.records.specs.Page.{hashSize, pageKey}
 use Rattle.records.specs.Record.{stateSize, recordSize}
 use Rattle.answers.specs.Hashing.{boundRecord}
@@ -21,18 +22,18 @@ drop-front : (w : ℕ) (r d : List ℕ) → length r ≡ w → drop w (over 0 r 
 unfolding over
 drop-front w r d wide = rw (drop-at r (drop (0 + length r) d) w wide, wide, zero-add)
 
-module _ (n v : ℕ) (page s state answer : List ℕ) (wide : length s ≡ hashSize) (size : length state ≡ stateSize n) (room : recordSize n ≤ length answer) where
-  pub front-bound : front (design n v) (over 0 (boundRecord (design n v) page s state) answer) ≡ boundRecord (design n v) page s state
-  front-bound = part-over 0 (recordSize n) (boundRecord (design n v) page s state) answer (length-bound n v page s state wide size) (omega arith)
+module _ (f : Form) (page s state answer : List ℕ) (wide : length s ≡ hashSize) (size : length state ≡ stateSize f) (room : recordSize f ≤ length answer) where
+  pub front-bound : front (design f) (over 0 (boundRecord (design f) page s state) answer) ≡ boundRecord (design f) page s state
+  front-bound = part-over 0 (recordSize f) (boundRecord (design f) page s state) answer (length-bound f page s state wide size) (omega arith)
 
   -- on every page with the key that it was bound under
   pub bound-wrote : (after : List ℕ) → pageKey after ≡ pageKey page
-      → Wrote (design n v) after answer (over 0 (boundRecord (design n v) page s state) answer) state s
+      → Wrote (design f) after answer (over 0 (boundRecord (design f) page s state) answer) state s
   bound-wrote after key =
-      let long = length-bound n v page s state wide size in
+      let long = length-bound f page s state wide size in
       record {
-        is = front-bound ∙ sym (bound-key n v page after s state key);
-        reads = rw front-bound (bound-reads n v page s state wide size after key);
-        rest = drop-front (recordSize n) (boundRecord (design n v) page s state) answer long;
-        size = length-over 0 (boundRecord (design n v) page s state) answer (omega arith);
+        is = front-bound ∙ sym (bound-key f page after s state key);
+        reads = rw front-bound (bound-reads f page s state wide size after key);
+        rest = drop-front (recordSize f) (boundRecord (design f) page s state) answer long;
+        size = length-over 0 (boundRecord (design f) page s state) answer (omega arith);
       }

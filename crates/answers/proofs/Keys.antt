@@ -5,6 +5,7 @@ use Prim.Native.Nat.{ℕ}
 use native.Mathlib.Decide.{ℕ-discrete}
 use mathlib.Core.List.{List}
 use borrow.Author.Tests.{eqb-true}
+use Rattle.records.specs.Form.{Form}
 use Rattle.records.specs.declared.Tested.{Tested}
 use Rattle.records.specs.declared.Tested.the-variants.{Passed, Refused}
 use Rattle.records.specs.Page.{pageKey, pageOf}
@@ -40,22 +41,22 @@ pub repeat-page : (D : Design) (page l request answer : List ℕ) → repeated D
 unfolding repeated
 repeat-page D page l request answer = repeat-leaves D page l request answer (repeatVerdict D page l request answer)
 
-pub perform-key : (n v : ℕ) (page l request answer : List ℕ) → pageKey (performed (design n v) page l request answer .page) ≡ pageKey page
-perform-key n v page l request answer = by (ℕ-discrete (performed (design n v) page l request answer .number) 0)
+pub perform-key : (f : Form) (page l request answer : List ℕ) → pageKey (performed (design f) page l request answer .page) ≡ pageKey page
+perform-key f page l request answer = by (ℕ-discrete (performed (design f) page l request answer .number) 0)
   where
-    by : Dec (performed (design n v) page l request answer .number ≡ 0) → pageKey (performed (design n v) page l request answer .page) ≡ pageKey page
+    by : Dec (performed (design f) page l request answer .number ≡ 0) → pageKey (performed (design f) page l request answer .page) ≡ pageKey page
     by (yes accepted) =
-        let (state, p) = perform-passed (design n v) page l request answer accepted in
-        ap (λ (p : Performed). pageKey (p .page)) (perform-is (design n v) page l request answer state p)
-        ∙ key-put page (nextSummary (design n v) (summary n l) request) (eqb-true _ _ (p .right)) (length-next n v (summary n l) request)
-    by (no refused) = ap pageKey (refusals-change-nothing (design n v) .performs page l request answer refused .pageStays)
+        let (state, p) = perform-passed (design f) page l request answer accepted in
+        ap (λ (p : Performed). pageKey (p .page)) (perform-is (design f) page l request answer state p)
+        ∙ key-put page (nextSummary (design f) (summary f l) request) (eqb-true _ _ (p .right)) (length-next f (summary f l) request)
+    by (no refused) = ap pageKey (refusals-change-nothing (design f) .performs page l request answer refused .pageStays)
 
-perform-moves : (n v : ℕ) (page l request answer : List ℕ) → performed (design n v) page l request answer .number ≡ 0
-    → performed (design n v) page l request answer .page ≡ pageOf (nextSummary (design n v) (summary n l) request) (pageKey page)
-perform-moves n v page l request answer accepted =
-    let (state, p) = perform-passed (design n v) page l request answer accepted in
-    ap (λ (p : Performed). p .page) (perform-is (design n v) page l request answer state p)
-    ∙ page-put page (nextSummary (design n v) (summary n l) request) (eqb-true _ _ (p .right)) (length-next n v (summary n l) request)
+perform-moves : (f : Form) (page l request answer : List ℕ) → performed (design f) page l request answer .number ≡ 0
+    → performed (design f) page l request answer .page ≡ pageOf (nextSummary (design f) (summary f l) request) (pageKey page)
+perform-moves f page l request answer accepted =
+    let (state, p) = perform-passed (design f) page l request answer accepted in
+    ap (λ (p : Performed). p .page) (perform-is (design f) page l request answer state p)
+    ∙ page-put page (nextSummary (design f) (summary f l) request) (eqb-true _ _ (p .right)) (length-next f (summary f l) request)
 
-pub key-stays : (n v : ℕ) → KeyStays n v
-key-stays n v = record { opens = open-page (design n v); performs = perform-key n v; repeats = repeat-page (design n v); moves = perform-moves n v }
+pub key-stays : (f : Form) → KeyStays f
+key-stays f = record { opens = open-page (design f); performs = perform-key f; repeats = repeat-page (design f); moves = perform-moves f }

@@ -9,6 +9,7 @@ use borrow.Author.Tests.{eqb-true, eq-eqb}
 use Rattle.numbers.specs.Parts.{over}
 use Rattle.numbers.proofs.Parts.{length-part}
 use Rattle.bindings.specs.Hashed.{authenticatorOf}
+use Rattle.records.specs.Form.{Form}
 use Rattle.records.specs.declared.Tested.the-variants.{Passed}
 use Rattle.records.specs.Page.{hashSize, pageSize}
 use Rattle.records.specs.Record.{stateSize, summary}
@@ -25,39 +26,39 @@ use Rattle.answers.proofs.States.{tests-passed}
 use Rattle.answers.proofs.Records.{bound-key}
 
 -- a record that has passed its tests has a summary of 32 bytes
-pub length-summary : (n v : ℕ) (l : List ℕ) → tested n v l ≡ Passed → length (summary n l) ≡ hashSize
-length-summary n v l passed =
-    length-part (3 + stateSize n) hashSize l (omega (arith, right-length n l (tests-passed n v l passed .0)))
+pub length-summary : (f : Form) (l : List ℕ) → tested f l ≡ Passed → length (summary f l) ≡ hashSize
+length-summary f l passed =
+    length-part (3 + stateSize f) hashSize l (omega (arith, right-length f l (tests-passed f l passed .0)))
 
-module _ (n v : ℕ) where
-  own-page : (page l request answer : List ℕ) → repeated (design n v) page l request answer .number ≡ 0 → OwnPage n page l (over 0 (summary n l) page)
+module _ (f : Form) where
+  own-page : (page l request answer : List ℕ) → repeated (design f) page l request answer .number ≡ 0 → OwnPage f page l (over 0 (summary f l) page)
   own-page page l request answer e =
-      let (state, p) = repeat-passed (design n v) page l request answer e in
+      let (state, p) = repeat-passed (design f) page l request answer e in
       let long = eqb-true (length page) pageSize (p .right) in
-      let wide = length-summary n v l (p .tests) in
-      record { size = length-put page (summary n l) long wide; key = key-put page (summary n l) long wide; summary = summary-put page (summary n l) long wide }
+      let wide = length-summary f l (p .tests) in
+      record { size = length-put page (summary f l) long wide; key = key-put page (summary f l) long wide; summary = summary-put page (summary f l) long wide }
 
-  same-answer : (page l request answer own : List ℕ) → repeated (design n v) page l request answer .number ≡ 0 → OwnPage n page l own
-      → SameAnswer (performed (design n v) own l request answer) (repeated (design n v) page l request answer)
+  same-answer : (page l request answer own : List ℕ) → repeated (design f) page l request answer .number ≡ 0 → OwnPage f page l own
+      → SameAnswer (performed (design f) own l request answer) (repeated (design f) page l request answer)
   same-answer page l request answer own e o =
-      let (state, p) = repeat-passed (design n v) page l request answer e in
-      let passing : PerformPassing (design n v) own l request answer state =
+      let (state, p) = repeat-passed (design f) page l request answer e in
+      let passing : PerformPassing (design f) own l request answer state =
       record {
         right = eq-eqb _ _ (o .size);
         room = p .room;
         tests = p .tests;
         formed = p .formed;
-        authentic = p .authentic ∙ ap (λ (k : List ℕ). authenticatorOf k [] (bindingIn (design n v) l)) (sym (o .key));
+        authentic = p .authentic ∙ ap (λ (k : List ℕ). authenticatorOf k [] (bindingIn (design f) l)) (sym (o .key));
         current = sym (o .summary);
         carries = p .carries;
       } in
-      rw (perform-is (design n v) own l request answer state passing, repeat-is (design n v) page l request answer state p)
+      rw (perform-is (design f) own l request answer state passing, repeat-is (design f) page l request answer state p)
       record {
         first = refl;
         second = refl;
         stored = refl;
-        answer = ap (λ (r : List ℕ). over 0 r answer) (bound-key n v page own (nextSummary (design n v) (summary n l) request) state (o .key));
+        answer = ap (λ (r : List ℕ). over 0 r answer) (bound-key f page own (nextSummary (design f) (summary f l) request) state (o .key));
       }
 
-  pub repeat-is-perform : RepeatIsPerform n v
+  pub repeat-is-perform : RepeatIsPerform f
   repeat-is-perform = record { pageOfRecord = own-page; onEach = same-answer }

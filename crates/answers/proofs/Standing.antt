@@ -2,16 +2,18 @@
 -- passes the tests 3, 4 and 5, and its summary is the page's. Assumes nothing.
 use mathlib.Core.Path.{_≡_, sym, ap, _∙_}
 use mathlib.Core.Bool.{true}
-use Prim.Native.Nat.{ℕ, _-_, _^_, _<_}
+use Prim.Native.Nat.{ℕ, _-_}
 use mathlib.Core.List.{List}
 use lib.ListN.{length}
 use borrow.Author.Tests.{eqb-true, eq-eqb}
 use Rattle.numbers.proofs.Comparison.{same-iff}
 use Rattle.racks.specs.Racks.{firstState}
 use Rattle.racks.specs.Layout.{bytesOfState}
+use Rattle.records.proofs.FormLaws.{Fits}
+use Rattle.records.specs.Form.{Form}
 use Rattle.records.specs.declared.Tested.the-variants.{Passed}
 use Rattle.records.specs.Page.{hashSize, pageSize, pageSummary, zeroSummary}
-use Rattle.records.specs.Record.{recordSize, summary, stateBytes}
+use Rattle.records.specs.Record.{summary, stateBytes}
 use Rattle.records.specs.Tests.{tested}
 use Rattle.answers.specs.Design.{Design}
 use Rattle.answers.specs.Hashing.{nextSummary, boundRecord}
@@ -39,44 +41,44 @@ stands D page l state summary right passes reads holds =
       views = λ rack looked. rw (looked, reads .validity, current, reads .stateIs);
     }
 
-module _ (n v : ℕ) (byte : v < 256) (short : recordSize n - 2 < 256 ^ 2) where
+module _ (f : Form) (fits : Fits f) where
   -- a good state bound to a summary passes the tests, whatever page it was bound on
-  passes : (page s state l : List ℕ) → length s ≡ hashSize → GoodBytes n state → l ≡ boundRecord (design n v) page s state → tested n v l ≡ Passed
-  passes page s state l wide good is = ap (tested n v) is ∙ bound-passes n v page s state wide (good .size) byte short (good .good)
+  passes : (page s state l : List ℕ) → length s ≡ hashSize → GoodBytes (f .racks) state → l ≡ boundRecord (design f) page s state → tested f l ≡ Passed
+  passes page s state l wide good is = ap (tested f) is ∙ bound-passes f page s state wide (good .size) fits (good .good)
 
-  open-stands : (page answer : List ℕ) → opened (design n v) page answer .number ≡ 0
-      → Stands (design n v) (opened (design n v) page answer .page) (front (design n v) (opened (design n v) page answer .answer)) (bytesOfState (firstState n))
+  open-stands : (page answer : List ℕ) → opened (design f) page answer .number ≡ 0
+      → Stands (design f) (opened (design f) page answer .page) (front (design f) (opened (design f) page answer .answer)) (bytesOfState (firstState (f .racks)))
   open-stands page answer e =
-      let w = reads-back n v .opens page answer e in
-      let passed = open-passed (design n v) page answer e in
-      stands (design n v) _ _ _ zeroSummary (rw (open-is (design n v) page answer passed) (opening (design n v) page answer passed .right))
-      (passes _ zeroSummary _ _ length-zeroSummary (first-good n) (w .1 .is)) (w .1 .reads) (w .0)
+      let w = reads-back f .opens page answer e in
+      let passed = open-passed (design f) page answer e in
+      stands (design f) _ _ _ zeroSummary (rw (open-is (design f) page answer passed) (opening (design f) page answer passed .right))
+      (passes _ zeroSummary _ _ length-zeroSummary (first-good (f .racks)) (w .1 .is)) (w .1 .reads) (w .0)
 
   -- what perform or repeat has answered, on a page of its size, from a record that has passed its tests
-  answered-stands : (l request answer : List ℕ) (p : Performed) → Answered (design n v) l request answer p → tested n v l ≡ Passed
-      → length (p .page) ≡ pageSize → Stands (design n v) (p .page) (front (design n v) (p .answer)) (stateBytes n (front (design n v) (p .answer)))
+  answered-stands : (l request answer : List ℕ) (p : Performed) → Answered (design f) l request answer p → tested f l ≡ Passed
+      → length (p .page) ≡ pageSize → Stands (design f) (p .page) (front (design f) (p .answer)) (stateBytes f (front (design f) (p .answer)))
   answered-stands l request answer p w passed long =
-      let good = served-good n (stateBytes n l) request (w .state) (record-good n v l passed) (w .carries) in
+      let good = served-good (f .racks) (stateBytes f l) request (w .state) (record-good f l passed) (w .carries) in
       rw (w .wrote .reads .stateIs)
-      (stands (design n v) _ _ (w .state) _ (eq-eqb _ _ long)
-      (passes _ _ (w .state) _ (length-next n v (summary n l) request) good (w .wrote .is)) (w .wrote .reads) (w .holds))
+      (stands (design f) _ _ (w .state) _ (eq-eqb _ _ long)
+      (passes _ _ (w .state) _ (length-next f (summary f l) request) good (w .wrote .is)) (w .wrote .reads) (w .holds))
 
-  perform-stands : (page l request answer : List ℕ) → performed (design n v) page l request answer .number ≡ 0
-      → Stands (design n v) (performed (design n v) page l request answer .page) (front (design n v) (performed (design n v) page l request answer .answer))
-      (stateBytes n (front (design n v) (performed (design n v) page l request answer .answer)))
+  perform-stands : (page l request answer : List ℕ) → performed (design f) page l request answer .number ≡ 0
+      → Stands (design f) (performed (design f) page l request answer .page) (front (design f) (performed (design f) page l request answer .answer))
+      (stateBytes f (front (design f) (performed (design f) page l request answer .answer)))
   perform-stands page l request answer e =
-      let (state, p) = perform-passed (design n v) page l request answer e in
-      let put = length-put page (nextSummary (design n v) (summary n l) request) (eqb-true _ _ (p .right)) (length-next n v (summary n l) request) in
-      let is = perform-is (design n v) page l request answer state p in
-      answered-stands l request answer _ (reads-back n v .performs page l request answer e) (p .tests) (ap (λ (p : Performed). length (p .page)) is ∙ put)
+      let (state, p) = perform-passed (design f) page l request answer e in
+      let put = length-put page (nextSummary (design f) (summary f l) request) (eqb-true _ _ (p .right)) (length-next f (summary f l) request) in
+      let is = perform-is (design f) page l request answer state p in
+      answered-stands l request answer _ (reads-back f .performs page l request answer e) (p .tests) (ap (λ (p : Performed). length (p .page)) is ∙ put)
 
-  repeat-stands : (page l request answer : List ℕ) → repeated (design n v) page l request answer .number ≡ 0
-      → Stands (design n v) (repeated (design n v) page l request answer .page) (front (design n v) (repeated (design n v) page l request answer .answer))
-      (stateBytes n (front (design n v) (repeated (design n v) page l request answer .answer)))
+  repeat-stands : (page l request answer : List ℕ) → repeated (design f) page l request answer .number ≡ 0
+      → Stands (design f) (repeated (design f) page l request answer .page) (front (design f) (repeated (design f) page l request answer .answer))
+      (stateBytes f (front (design f) (repeated (design f) page l request answer .answer)))
   repeat-stands page l request answer e =
-      let (state, p) = repeat-passed (design n v) page l request answer e in
-      let is = repeat-is (design n v) page l request answer state p in
-      answered-stands l request answer _ (reads-back n v .repeats page l request answer e) (p .tests) (ap (λ (p : Performed). length (p .page)) is ∙ eqb-true _ _ (p .right))
+      let (state, p) = repeat-passed (design f) page l request answer e in
+      let is = repeat-is (design f) page l request answer state p in
+      answered-stands l request answer _ (reads-back f .repeats page l request answer e) (p .tests) (ap (λ (p : Performed). length (p .page)) is ∙ eqb-true _ _ (p .right))
 
-  pub answers-stand : AnswersStand (design n v)
+  pub answers-stand : AnswersStand (design f)
   answers-stand = record { opens = open-stands; performs = perform-stands; repeats = repeat-stands }

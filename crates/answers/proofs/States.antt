@@ -16,15 +16,16 @@ use Rattle.racks.proofs.StateRule.{fits-at}
 use Rattle.racks.proofs.FirstState.{length-firstState, good-firstState}
 use Rattle.rules.specs.Replay.{Booked, book}
 use Rattle.rules.proofs.Replays.{kept-book}
+use Rattle.records.specs.Form.{Form}
 use Rattle.records.specs.declared.Tested.the-variants.{Passed, Refused}
-use Rattle.records.specs.Record.{stateSize, stateBytes, rightSize, rightVersion, rightState}
+use Rattle.records.specs.Record.{stateBytes, rightSize, rightVersion, rightState}
 use Rattle.records.specs.Tests.{tested}
 use Rattle.answers.specs.Design.{Served}
 use Rattle.answers.specs.Edition.{inBytes, servedBytes}
 
 -- the bytes of n racks that keep the state rule
 pub record GoodBytes (n : ℕ) (state : List ℕ) : Type 0 where
-  pub size : length state ≡ stateSize n
+  pub size : length state ≡ n * rackSize
   pub good : goodState (stateOf n state) ≡ true
 
 pub good-bytes : (n : ℕ) (s : State) → length s ≡ n → goodState s ≡ true → GoodBytes n (bytesOfState s)
@@ -47,13 +48,13 @@ all-three true false c e = let z : _≡_ {A = ℕ} 0 1 = cc in absurd (omega ari
 all-three true true false e = let z : _≡_ {A = ℕ} 0 1 = cc in absurd (omega arith)
 all-three true true true e = (refl, refl, refl)
 
-pub tests-passed : (n v : ℕ) (l : List ℕ) → tested n v l ≡ Passed → (rightSize n l ≡ true) × (rightVersion n v l ≡ true) × (rightState n l ≡ true)
+pub tests-passed : (f : Form) (l : List ℕ) → tested f l ≡ Passed → (rightSize f l ≡ true) × (rightVersion f l ≡ true) × (rightState f l ≡ true)
 unfolding tested
-tests-passed n v l e = all-three (rightSize n l) (rightVersion n v l) (rightState n l) e
+tests-passed f l e = all-three (rightSize f l) (rightVersion f l) (rightState f l) e
 
-pub record-good : (n v : ℕ) (l : List ℕ) → tested n v l ≡ Passed → goodState (stateOf n (stateBytes n l)) ≡ true
+pub record-good : (f : Form) (l : List ℕ) → tested f l ≡ Passed → goodState (stateOf (f .racks) (stateBytes f l)) ≡ true
 unfolding rightState
-record-good n v l e = tests-passed n v l e .2
+record-good f l e = tests-passed f l e .2
 
 -- ---- what a request leads to
 

@@ -9,11 +9,10 @@ use lib.Dec.{lit<}
 use Rattle.numbers.specs.Numbers.{Bytes}
 use Rattle.numbers.specs.Parts.{part}
 use Rattle.numbers.proofs.Bytes.{bytes-replicate}
-use Rattle.racks.specs.Edition.{racks}
 use Rattle.sha256.proofs.DigestLaws.{bytes-sha256}
+use Rattle.records.specs.Form.{version1}
 use Rattle.records.specs.Page.{hashSize, pageKey, pageOf, zeroSummary}
 use Rattle.records.specs.Record.{recordSize}
-use Rattle.records.specs.Edition.{recordVersion}
 use Rattle.records.proofs.PageBytes.{page-key}
 use Rattle.answers.specs.Answers.{Outcome, opened, performed, repeated, Viewed, Resumed}
 use Rattle.answers.specs.Edition.{thisEdition}
@@ -54,15 +53,15 @@ module _ (key : List ℕ) (k : length key ≡ hashSize) (b : Bytes key) where
       let accepted = accepted-perform key ones k refl in
       told (performed thisEdition) (pageOf ones key) (firstBound key ones) (first-buffers key ones k refl b bytes-ones ones refl bytes-ones)
       (first-reads key ones k refl (pageOf ones key) (page-key ones key refl k) .stateIs)
-      accepted (reads-back racks recordVersion .performs (pageOf ones key) (firstBound key ones) asked zeros accepted)
+      accepted (reads-back version1 .performs (pageOf ones key) (firstBound key ones) asked zeros accepted)
 
   repeat-told : Told (repeated thisEdition) (pageOf (movedOn ones) key) (firstBound key ones)
   repeat-told =
       let accepted = accepted-repeat key ones k refl in
       told (repeated thisEdition) (pageOf (movedOn ones) key) (firstBound key ones)
-      (first-buffers key ones k refl b bytes-ones (movedOn ones) (length-next racks recordVersion ones asked) (bytes-sha256 _))
+      (first-buffers key ones k refl b bytes-ones (movedOn ones) (length-next version1 ones asked) (bytes-sha256 _))
       (first-reads key ones k refl (pageOf ones key) (page-key ones key refl k) .stateIs)
-      accepted (reads-back racks recordVersion .repeats (pageOf (movedOn ones) key) (firstBound key ones) asked zeros accepted)
+      accepted (reads-back version1 .repeats (pageOf (movedOn ones) key) (firstBound key ones) asked zeros accepted)
 
 pub perform-turned-away : TurnedAway (performed thisEdition)
 perform-turned-away =
@@ -71,13 +70,13 @@ perform-turned-away =
 pub repeat-turned-away : TurnedAway (repeated thisEdition)
 repeat-turned-away =
     turned-away (repeated thisEdition) _ _ _ _ (repeat-told aKey refl bytes-aKey) (repeat-told ones refl bytes-ones)
-    (keys-apart (movedOn ones) (length-next racks recordVersion ones asked))
+    (keys-apart (movedOn ones) (length-next version1 ones asked))
 
 -- ---- open, view and resume
 
 -- a buffer of ones, which the first record has elsewhere
 abbrev onesBuffer : List ℕ
-onesBuffer = replicate (recordSize racks) 1
+onesBuffer = replicate (recordSize version1) 1
 
 ones-byte : byteOf (front thisEdition onesBuffer) ≡ 1
 unfolding part
@@ -85,7 +84,7 @@ ones-byte = refl
 
 opened-byte : byteOf (front thisEdition (opened thisEdition (pageOf zeroSummary aKey) onesBuffer .answer)) ≡ 0
 opened-byte =
-    let w = reads-back racks recordVersion .opens (pageOf zeroSummary aKey) onesBuffer (accepted-open aKey onesBuffer refl (omega arith)) in
+    let w = reads-back version1 .opens (pageOf zeroSummary aKey) onesBuffer (accepted-open aKey onesBuffer refl (omega arith)) in
     ap (λ (b : List ℕ). getD b 3 0) (w .1 .reads .stateIs) ∙ first-byte
 
 pub others-turned-away : OthersTurnedAway

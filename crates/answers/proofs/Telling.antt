@@ -10,9 +10,9 @@ use Rattle.numbers.specs.Parts.{part}
 use Rattle.racks.specs.Racks.{firstState}
 use Rattle.racks.specs.Layout.{bytesOfRack, bytesOfState}
 use Rattle.racks.specs.Edition.{racks}
+use Rattle.records.specs.Form.{version1}
 use Rattle.records.specs.Page.{zeroSummary}
 use Rattle.records.specs.Record.{stateBytes}
-use Rattle.records.specs.Edition.{recordVersion}
 use Rattle.answers.specs.Design.{Served}
 use Rattle.answers.specs.Hashing.{boundRecord}
 use Rattle.answers.specs.Answers.{Performed}
@@ -28,7 +28,7 @@ use Rattle.answers.proofs.AcceptedCalls.{zeros}
 -- ---- the byte that tells them apart: the last of rack 0's capacity
 
 abbrev pub byteOf : List ℕ → ℕ
-byteOf l = getD (stateBytes racks l) 3 0
+byteOf l = getD (stateBytes version1 l) 3 0
 
 -- of the first state
 pub first-byte : getD (bytesOfState (firstState racks)) 3 0 ≡ 0
@@ -49,7 +49,7 @@ zeros-byte = refl
 first-record-byte : (page : List ℕ) → byteOf (boundRecord thisEdition page zeroSummary (bytesOfState (firstState racks))) ≡ 0
 first-record-byte page =
     ap (λ (b : List ℕ). getD b 3 0)
-    (bound-reads racks recordVersion page zeroSummary (bytesOfState (firstState racks)) length-zeroSummary (first-good racks .size) page refl .stateIs)
+    (bound-reads version1 page zeroSummary (bytesOfState (firstState racks)) length-zeroSummary (first-good racks .size) page refl .stateIs)
     ∙ first-byte
 
 -- ---- an accepted call of perform or repeat, from a record with the first state
@@ -60,10 +60,10 @@ pub record Told (call : Version) (page l : List ℕ) : Type 0 where
   pub given : byteOf l ≡ 0
   pub written : byteOf (front thisEdition (call page l asked zeros .answer)) ≡ 5
 
-pub told : (call : Version) (page l : List ℕ) → Buffers page l asked zeros → stateBytes racks l ≡ bytesOfState (firstState racks)
+pub told : (call : Version) (page l : List ℕ) → Buffers page l asked zeros → stateBytes version1 l ≡ bytesOfState (firstState racks)
     → call page l asked zeros .number ≡ 0 → Answered thisEdition l asked zeros (call page l asked zeros) → Told call page l
 told call page l buffers first accepted a =
-    let same : servedBytes racks (stateBytes racks l) asked ≡ Served.carried (bytesOfState afterwards) =
+    let same : servedBytes racks (stateBytes version1 l) asked ≡ Served.carried (bytesOfState afterwards) =
     ap (λ (b : List ℕ). servedBytes racks b asked) first ∙ served-first in
     let c = a .carries in
     let is : a .state ≡ bytesOfState afterwards = cc in

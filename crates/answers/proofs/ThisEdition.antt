@@ -2,9 +2,9 @@
 use mathlib.Core.Path.{_≡_}
 use Prim.Native.Nat.{ℕ}
 use mathlib.Core.List.{List}
-use lib.Dec.{lit<}
-use Rattle.racks.specs.Edition.{racks}
-use Rattle.records.specs.Edition.{recordVersion}
+use Rattle.records.specs.declared.Form.the-variants.{Version1}
+use Rattle.records.proofs.FormLaws.{fits}
+use Rattle.records.specs.Form.{version1}
 use Rattle.answers.specs.Edition.{thisEdition}
 use Rattle.answers.specs.Written.{ReadsBack, AnswersStand}
 use Rattle.answers.specs.RepeatIsPerform.{RepeatIsPerform}
@@ -17,21 +17,21 @@ use Rattle.answers.proofs.Keys.{key-stays}
 
 -- what is written reads back, and is current on the page then left
 pub this-reads-back : ReadsBack thisEdition
-this-reads-back = reads-back racks recordVersion
+this-reads-back = reads-back version1
 
 pub this-answers-stand : AnswersStand thisEdition
-this-answers-stand = answers-stand racks recordVersion (lit< tt) (lit< tt)
+this-answers-stand = answers-stand version1 (fits Version1)
 
 -- repeat writes what perform would
-pub this-repeat-is-perform : RepeatIsPerform racks recordVersion
-this-repeat-is-perform = repeat-is-perform racks recordVersion
+pub this-repeat-is-perform : RepeatIsPerform version1
+this-repeat-is-perform = repeat-is-perform version1
 
 -- a refusal changes nothing, and no call changes the key
 pub this-refusals-change-nothing : RefusalsChangeNothing thisEdition
 this-refusals-change-nothing = refusals-change-nothing thisEdition
 
-pub this-key-stays : KeyStays racks recordVersion
-this-key-stays = key-stays racks recordVersion
+pub this-key-stays : KeyStays version1
+this-key-stays = key-stays version1
 
 -- different states are hashed as different messages
 pub state-messages-apart : (a b : List ℕ) → thisEdition .stateMessage a ≡ thisEdition .stateMessage b → a ≡ b

@@ -2,7 +2,7 @@
 -- page that holds it, is a current record, and a request that sets rack 0's capacity to 5 is carried out on it. Assumes nothing.
 use mathlib.Core.Path.{_≡_, refl, ap, _∙_}
 use mathlib.Core.Bool.{true}
-use Prim.Native.Nat.{ℕ, _-_, _^_, _<_}
+use Prim.Native.Nat.{ℕ, _-_}
 use mathlib.Core.List.{List}
 use lib.ListN.{length, set}
 use borrow.Author.Tests.{eq-eqb}
@@ -19,8 +19,9 @@ use Rattle.requests.specs.Formed.{rightForm, rightOther, rightAmount, wellForme
 use Rattle.requests.specs.Requests.{requestBy, requestOf, readRequest}
 use Rattle.rules.specs.Rules.{withCapacity, overCapacity, overStored, overLimit, ruling, carryOut}
 use Rattle.rules.specs.Replay.{Booked, book}
+use Rattle.records.specs.Form.{Form}
 use Rattle.records.specs.Page.{hashSize, pageOf}
-use Rattle.records.specs.Record.{recordSize}
+use Rattle.records.proofs.FormLaws.{Fits}
 use Rattle.records.proofs.PageBytes.{page-summary, length-page}
 use Rattle.answers.specs.Design.{Served}
 use Rattle.answers.specs.Hashing.{boundRecord}
@@ -31,12 +32,12 @@ use Rattle.answers.proofs.Records.{bound-reads, bound-passes}
 use Rattle.answers.proofs.Standing.{stands}
 
 -- ---- for every key, summary and good state there is a record, current on the page that holds the summary
-pub a-current-record : (n v : ℕ) → v < 256 → recordSize n - 2 < 256 ^ 2 → (key s state : List ℕ) → length key ≡ hashSize → length s ≡ hashSize → GoodBytes n state
-    → Stands (design n v) (pageOf s key) (boundRecord (design n v) (pageOf s key) s state) state
-a-current-record n v byte short key s state k w good =
-    stands (design n v) (pageOf s key) _ state s (eq-eqb _ _ (length-page s key w k))
-    (bound-passes n v (pageOf s key) s state w (good .size) byte short (good .good))
-    (bound-reads n v (pageOf s key) s state w (good .size) (pageOf s key) refl) (page-summary s key w k)
+pub a-current-record : (f : Form) → Fits f → (key s state : List ℕ) → length key ≡ hashSize → length s ≡ hashSize → GoodBytes (f .racks) state
+    → Stands (design f) (pageOf s key) (boundRecord (design f) (pageOf s key) s state) state
+a-current-record f fits key s state k w good =
+    stands (design f) (pageOf s key) _ state s (eq-eqb _ _ (length-page s key w k))
+    (bound-passes f (pageOf s key) s state w (good .size) fits (good .good))
+    (bound-reads f (pageOf s key) s state w (good .size) (pageOf s key) refl) (page-summary s key w k)
 
 -- ---- the request: rack 0's capacity becomes 5
 

@@ -1,7 +1,6 @@
--- The design that ships: SHA-256, HMAC-SHA-256, pages of 64 bytes, records of n racks and version v, requests of version 1 and the
--- charge rules; this edition has 16 racks and version 1. Nothing stands before the binding in the MAC. Assumes nothing.
+-- The design that ships: SHA-256, HMAC-SHA-256, pages of 64 bytes, records of a form, requests of version 1 and the charge rules.
+-- Nothing stands before the binding in the MAC. Assumes nothing.
 use Prim.Native.Nat.{ℕ}
-use mathlib.Core.Bool.{Bool}
 use mathlib.Core.List.{List, []}
 use lib.ListN.{length}
 use lib.Dec.{eqb}
@@ -9,14 +8,13 @@ use Rattle.numbers.specs.Parts.{over}
 use Rattle.racks.specs.Racks.{State, rackAt, firstState}
 use Rattle.racks.specs.Layout.{stateOf, bytesOfState}
 use Rattle.racks.specs.Figures.{percent, totalStored}
-use Rattle.racks.specs.Edition.{racks}
 use Rattle.requests.specs.Formed.{wellFormed}
 use Rattle.requests.specs.Requests.{requestOf, rackOfRequest}
 use Rattle.rules.specs.Replay.{Booked, book}
+use Rattle.records.specs.Form.{Form, version1}
 use Rattle.records.specs.Page.{pageSize, pageSummary, pageKey}
 use Rattle.records.specs.Record.{recordSize, stateBytes, summary, authenticator, recordOf}
 use Rattle.records.specs.Tests.{tested}
-use Rattle.records.specs.Edition.{recordVersion}
 use Rattle.sha256.specs.Computation.{sha256}
 use Rattle.bindings.specs.Hashed.{stateMessage, authenticatorOf}
 use Rattle.answers.specs.Design.{Design, Served, Figures}
@@ -38,28 +36,28 @@ abbrev pub figuresOf : State → ℕ → Figures
 figuresOf s i =
     record { stored = rackAt s i .stored; capacity = rackAt s i .capacity; percent = percent (rackAt s i); total = totalStored s }
 
-abbrev pub design : ℕ → ℕ → Design
-design n v =
+abbrev pub design : Form → Design
+design f =
     record {
       hash = sha256;
-      stateMessage = stateMessage;
+      stateMessage = stateMessage f;
       rightPage = λ page. eqb (length page) pageSize;
       pageSummary = pageSummary;
       withSummary = λ page s. over 0 s page;
       mac = λ page bound. authenticatorOf (pageKey page) [] bound;
-      recordSize = recordSize n;
-      tested = tested n v;
-      stateBytes = stateBytes n;
-      summary = summary n;
-      authenticator = authenticator n;
-      recordOf = recordOf n v;
-      formed = wellFormed n;
-      firstBytes = bytesOfState (firstState n);
-      served = servedBytes n;
-      storedAfter = storedAfter n;
-      racks = n;
-      figures = λ state rack. figuresOf (stateOf n state) rack;
+      recordSize = recordSize f;
+      tested = tested f;
+      stateBytes = stateBytes f;
+      summary = summary f;
+      authenticator = authenticator f;
+      recordOf = recordOf f;
+      formed = wellFormed (f .racks);
+      firstBytes = bytesOfState (firstState (f .racks));
+      served = servedBytes (f .racks);
+      storedAfter = storedAfter (f .racks);
+      racks = f .racks;
+      figures = λ state rack. figuresOf (stateOf (f .racks) state) rack;
     }
 
 abbrev pub thisEdition : Design
-thisEdition = design racks recordVersion
+thisEdition = design version1

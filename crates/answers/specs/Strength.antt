@@ -7,6 +7,7 @@ use mathlib.Core.List.{List}
 use lib.ListN.{length}
 use Rattle.numbers.specs.Numbers.{Bytes}
 use Rattle.racks.specs.Edition.{racks}
+use Rattle.records.specs.Form.{version1}
 use Rattle.records.specs.Page.{pageKey, zeroSummary}
 use Rattle.records.specs.Record.{summary}
 use Rattle.answers.specs.Hashing.{boundRecord}
@@ -114,7 +115,7 @@ pub record AcceptedCall (call : Version) (key recordSummary : List ℕ) : Type 0
   pub answer : List ℕ
   pub buffers : Buffers page offered request answer
   pub keyIs : pageKey page ≡ key
-  pub summaryIs : summary racks offered ≡ recordSummary
+  pub summaryIs : summary version1 offered ≡ recordSummary
   pub accepted : call page offered request answer .number ≡ 0
 
 -- a record that view shows at every rack, and that resume hands back, whatever stands on the disk
@@ -123,6 +124,6 @@ pub record AcceptedLook (key recordSummary : List ℕ) : Type 0 where
   pub offered : List ℕ
   pub buffers : Buffer page × Buffer offered
   pub keyIs : pageKey page ≡ key
-  pub summaryIs : summary racks offered ≡ recordSummary
+  pub summaryIs : summary version1 offered ≡ recordSummary
   pub shown : (rack : ℕ) → rack < racks → viewed thisEdition page offered rack .number ≡ 0
   pub handedBack : (onDisk : List ℕ) → resumed thisEdition page offered onDisk ≡ Resumed.ram

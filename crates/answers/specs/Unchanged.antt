@@ -3,6 +3,7 @@
 use mathlib.Core.Path.{_≡_}
 use Prim.Native.Nat.{ℕ}
 use mathlib.Core.List.{List}
+use Rattle.records.specs.Form.{Form}
 use Rattle.records.specs.Page.{pageKey, pageOf}
 use Rattle.records.specs.Record.{summary}
 use Rattle.answers.specs.Design.{Design}
@@ -31,9 +32,9 @@ pub record RefusalsChangeNothing (D : Design) : Type 0 where
 
 -- the key of the page is what it was, whatever the page and whatever the answer; open and repeat leave the whole page, and one that
 -- perform has moved on is made of the next summary and the key
-pub record KeyStays (n v : ℕ) : Type 0 where
-  pub opens : (page answer : List ℕ) → opened (design n v) page answer .page ≡ page
-  pub performs : (page l request answer : List ℕ) → pageKey (performed (design n v) page l request answer .page) ≡ pageKey page
-  pub repeats : (page l request answer : List ℕ) → repeated (design n v) page l request answer .page ≡ page
-  pub moves : (page l request answer : List ℕ) → performed (design n v) page l request answer .number ≡ 0
-      → performed (design n v) page l request answer .page ≡ pageOf (nextSummary (design n v) (summary n l) request) (pageKey page)
+pub record KeyStays (f : Form) : Type 0 where
+  pub opens : (page answer : List ℕ) → opened (design f) page answer .page ≡ page
+  pub performs : (page l request answer : List ℕ) → pageKey (performed (design f) page l request answer .page) ≡ pageKey page
+  pub repeats : (page l request answer : List ℕ) → repeated (design f) page l request answer .page ≡ page
+  pub moves : (page l request answer : List ℕ) → performed (design f) page l request answer .number ≡ 0
+      → performed (design f) page l request answer .page ≡ pageOf (nextSummary (design f) (summary f l) request) (pageKey page)

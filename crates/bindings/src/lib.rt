@@ -2,6 +2,8 @@
 // pieces where they lie, behind a byte that says its kind. The authenticator is the MAC of the binding; it seals a record.
 mod sealing;
 
+use records::Form;
+use records::tag_of;
 pub use sealing::authenticator_of;
 pub use sealing::lay;
 pub use sealing::prepared;
@@ -10,14 +12,15 @@ use sha256::sha256;
 ghost use mathlib.Core.Path.{_≡_};
 ghost use Prim.Native.Nat.{_+_, _≤_};
 ghost use lib.ListN.{length};
+ghost use Rattle.records.specs.Form.{formOf};
 ghost use Rattle.bindings.specs.Hashed.{stateHash, nextSummary, binding};
 
-// The hash of a state.
-pub(crate) fn state_hash(state: &[u8]) -> [u8; 32]
+// The hash of a state of a form.
+pub(crate) fn state_hash(state: &[u8], form: Form) -> [u8; 32]
     requires { ⌜ length (now state) ≤ 65535 ⌝ }
-    ensures { λ r. ⌜ r ≡ stateHash (now (state .entry)) ⌝ }
+    ensures { λ r. ⌜ r ≡ stateHash (formOf form) (now (state .entry)) ⌝ }
 {
-    let tag = [0x01u8];
+    let tag = [tag_of(form)];
     sha256(&tag, state, &state[..0])
 }
 

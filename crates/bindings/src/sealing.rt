@@ -6,6 +6,7 @@ use hmac::Prepared;
 use hmac::mac;
 use hmac::prepare;
 use numbers::copy;
+use records::Form;
 use records::HASH_SIZE;
 use records::page_key;
 use records::record_size;
@@ -16,8 +17,9 @@ ghost use mathlib.Core.List.{[], _∷_};
 ghost use Prim.Native.Nat.{_+_, _≤_};
 ghost use lib.ListN.{length};
 ghost use Rattle.numbers.specs.Parts.{over, join};
+ghost use Rattle.records.specs.Form.{formOf};
 ghost use Rattle.records.specs.Page.{pageSize, pageKey};
-ghost use Rattle.records.specs.Record.{stateSize, recordSize, stateBytes, summary};
+ghost use Rattle.records.specs.Record.{recordSize, stateBytes, summary};
 ghost use Rattle.hmac.specs.Preparation.{halves, preparedOf};
 ghost use Rattle.bindings.specs.Hashed.{bindingOf};
 ghost use Rattle.bindings.specs.Sealing.{ownAuthenticator, sealed};
@@ -31,14 +33,13 @@ pub fn prepared(page: &[u8]) -> Prepared
 }
 
 // The binding of a record's own state to its own summary. The state's hash is gone from the stack when this returns.
-fn binding_in(record: &[u8], racks: usize) -> [u8; 32]
-    requires { ⌜ length (now «record») ≡ recordSize racks ⌝ }
-    requires { ⌜ stateSize racks ≤ 65535 ⌝ }
-    ensures { λ r. ⌜ r ≡ bindingOf (summary racks (now («record» .entry))) (stateBytes racks (now («record» .entry))) ⌝ }
+fn binding_in(record: &[u8], form: Form) -> [u8; 32]
+    requires { ⌜ length (now «record») ≡ recordSize (formOf form) ⌝ }
+    ensures { λ r. ⌜ r ≡ bindingOf (formOf form) (summary (formOf form) (now («record» .entry))) (stateBytes (formOf form) (now («record» .entry))) ⌝ }
 {
-    let summary = summary_part(record, racks);
-    let state = state_part(record, racks);
-    let hash = state_hash(state);
+    let summary = summary_part(record, form);
+    let state = state_part(record, form);
+    let hash = state_hash(state, form);
     binding(summary, &hash)
 }
 
@@ -47,13 +48,12 @@ pub fn authenticator_of<'a>(
     inner: &'a [u32; 8],
     outer: &'a [u32; 8],
     record: &[u8],
-    racks: usize,
+    form: Form,
 ) -> [u8; 32]
-    requires { ⌜ length (now «record») ≡ recordSize racks ⌝ }
-    requires { ⌜ stateSize racks ≤ 65535 ⌝ }
-    ensures { λ r. ⌜ r ≡ ownAuthenticator racks (halves (now (inner .entry)) (now (outer .entry))) (now («record» .entry)) ⌝ }
+    requires { ⌜ length (now «record») ≡ recordSize (formOf form) ⌝ }
+    ensures { λ r. ⌜ r ≡ ownAuthenticator (formOf form) (halves (now (inner .entry)) (now (outer .entry))) (now («record» .entry)) ⌝ }
 {
-    let bound = binding_in(record, racks);
+    let bound = binding_in(record, form);
     mac(inner, outer, &record[..0], &bound)
 }
 
@@ -70,12 +70,11 @@ pub fn lay(answer: &mut [u8], header: &[u8], state: &[u8], summary: &[u8])
 }
 
 // Lays the authenticator of the state and the summary that lie in an answer behind them.
-pub fn seal<'a>(answer: &mut [u8], inner: &'a [u32; 8], outer: &'a [u32; 8], racks: usize)
-    requires { ⌜ recordSize racks ≤ length (now answer) ⌝ }
-    requires { ⌜ stateSize racks ≤ 65535 ⌝ }
-    ensures { λ _. ⌜ now (answer .exit) ≡ sealed racks (halves (now (inner .entry)) (now (outer .entry))) (now (answer .entry)) ⌝ }
+pub fn seal<'a>(answer: &mut [u8], inner: &'a [u32; 8], outer: &'a [u32; 8], form: Form)
+    requires { ⌜ recordSize (formOf form) ≤ length (now answer) ⌝ }
+    ensures { λ _. ⌜ now (answer .exit) ≡ sealed (formOf form) (halves (now (inner .entry)) (now (outer .entry))) (now (answer .entry)) ⌝ }
 {
-    let size = record_size(racks);
-    let authenticator = authenticator_of(inner, outer, &answer[..size], racks);
+    let size = record_size(form);
+    let authenticator = authenticator_of(inner, outer, &answer[..size], form);
     copy(answer, size - HASH_SIZE, &authenticator);
 }

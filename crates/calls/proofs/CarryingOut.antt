@@ -13,25 +13,26 @@ use Rattle.rules.specs.declared.Ruling.{Ruling}
 use Rattle.rules.specs.declared.Ruling.the-variants.{Free}
 use Rattle.rules.specs.Rules.{ruling}
 use Rattle.rules.specs.Ready.{racksIn, stateIn, Ready}
+use Rattle.records.specs.Form.{Form}
 use Rattle.records.specs.Record.{recordSize, stateBytes, state}
 use Rattle.bindings.proofs.Seals.{length-state}
 
-module _ (n : ℕ) (l : List ℕ) (q : Request) (room : recordSize n ≤ length l) where
-  count : racksIn (stateBytes n l) ≡ n
-  count = ap (λ (m : ℕ). m / rackSize) (length-state n l room) ∙ mul-div-cancel n (lit< tt)
+module _ (f : Form) (l : List ℕ) (q : Request) (room : recordSize f ≤ length l) where
+  count : racksIn (stateBytes f l) ≡ (f .racks)
+  count = ap (λ (m : ℕ). m / rackSize) (length-state f l room) ∙ mul-div-cancel (f .racks) (lit< tt)
 
   -- the state in the bytes is the record's
-  pub state-in : stateIn (stateBytes n l) ≡ state n l
-  state-in = ap (λ (k : ℕ). stateOf k (stateBytes n l)) count
+  pub state-in : stateIn (stateBytes f l) ≡ state f l
+  state-in = ap (λ (k : ℕ). stateOf k (stateBytes f l)) count
 
   -- the request's racks are among those in the bytes
-  pub named : (s : List ℕ) → s ≡ stateBytes n l → Named n q → Named (racksIn s) q
+  pub named : (s : List ℕ) → s ≡ stateBytes f l → Named (f .racks) q → Named (racksIn s) q
   named s is among = rw (is, count) among
 
   -- what is judged on the bytes is judged on the record's state
-  pub judged : (s : List ℕ) (w : Ruling) → s ≡ stateBytes n l → w ≡ ruling (stateIn s) q → w ≡ ruling (state n l) q
+  pub judged : (s : List ℕ) (w : Ruling) → s ≡ stateBytes f l → w ≡ ruling (stateIn s) q → w ≡ ruling (state f l) q
   judged s w is e = rw (is, state-in) at e
 
   -- a request that nothing bars can be carried out
-  pub ready : InRange n q → ruling (state n l) q ≡ Free → Ready (stateBytes n l) q
-  ready range free = record { whole = rw (count, length-state n l room); range = rw count range; free = rw state-in free }
+  pub ready : InRange (f .racks) q → ruling (state f l) q ≡ Free → Ready (stateBytes f l) q
+  ready range free = record { whole = rw (count, length-state f l room); range = rw count range; free = rw state-in free }

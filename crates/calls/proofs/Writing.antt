@@ -5,7 +5,7 @@ use Prim.Native.Nat.{ℕ, _+_, _-_, _*_, _≤_}
 use native.Mathlib.Nat.{zero-add, add-zero}
 use native.Mathlib.Omega.{arith}
 use mathlib.Core.List.{List, [], _∷_, _++_, append-assoc}
-use lib.ListN.{length, take, drop, getD, length-append}
+use lib.ListN.{length, take, drop, length-append}
 use Rattle.numbers.specs.Parts.{over, join}
 use Rattle.numbers.proofs.Parts.{length-over}
 use Rattle.numbers.proofs.Layouts.{length-join}
@@ -20,9 +20,10 @@ use Rattle.requests.specs.Requests.{rackOfRequest}
 use Rattle.rules.specs.Rules.{carryOut}
 use Rattle.rules.specs.Ready.{stateIn, Ready}
 use Rattle.rules.proofs.Changes.{length-carryOut}
+use Rattle.records.specs.Form.{Form}
 use Rattle.records.specs.Page.{hashSize}
-use Rattle.records.specs.Record.{stateSize, recordSize, stateBytes, summary, state, header, Described}
-use Rattle.records.proofs.Headers.{length-header, length-described}
+use Rattle.records.specs.Record.{stateSize, recordSize, stateBytes, summary, state, header}
+use Rattle.records.proofs.Headers.{length-header}
 use Rattle.hmac.specs.declared.Prepared.{Prepared}
 use Rattle.bindings.specs.Sealing.{sealed}
 use Rattle.bindings.proofs.Seals.{length-state, laid-state, sealed-laid, sealed-summary}
@@ -48,45 +49,41 @@ relaid a b v c x same =
     rw (front (a ++ (b ++ c)) x, front (a ++ (v ++ c)) x, ← size) (simp append-assoc (rw add-zero at there))
 
 -- carrying a request out in the state that is lent, where it lies
-module _ (n : ℕ) (q : Request) (x : List ℕ) (room : recordSize n ≤ length x) where
-  length-next : length (nextBytes n x q) ≡ stateSize n
-  length-next = length-bytesOfState (nextState n x q) ∙ ap (λ (k : ℕ). k * rackSize) (length-carryOut (state n x) q ∙ length-stateOf n (stateBytes n x))
+module _ (f : Form) (q : Request) (x : List ℕ) (room : recordSize f ≤ length x) where
+  length-next : length (nextBytes f x q) ≡ stateSize f
+  length-next = length-bytesOfState (nextState f x q) ∙ ap (λ (k : ℕ). k * rackSize) (length-carryOut (state f x) q ∙ length-stateOf (f .racks) (stateBytes f x))
 
-  pub lent-state : take (3 + stateSize n - 3) (drop 3 x) ≡ stateBytes n x
-  lent-state = lent 3 (stateSize n) x
+  pub lent-state : take (3 + stateSize f - 3) (drop 3 x) ≡ stateBytes f x
+  lent-state = lent 3 (stateSize f) x
 
-  pub carried : (v : List ℕ) (k : ℕ) → (v ≡ bytesOfState (carryOut (stateIn (take (3 + stateSize n - 3) (drop 3 x))) q)) × (k ≡ rackAt (carryOut (stateIn (take (3 + stateSize n - 3) (drop 3 x))) q) (rackOfRequest q) .stored)
-      → (take 3 x ++ (v ++ drop (3 + stateSize n - 3) (drop 3 x)) ≡ over 3 (nextBytes n x q) x) × (k ≡ nextStored n x q)
+  pub carried : (v : List ℕ) (k : ℕ) → (v ≡ bytesOfState (carryOut (stateIn (take (3 + stateSize f - 3) (drop 3 x))) q)) × (k ≡ rackAt (carryOut (stateIn (take (3 + stateSize f - 3) (drop 3 x))) q) (rackOfRequest q) .stored)
+      → (take 3 x ++ (v ++ drop (3 + stateSize f - 3) (drop 3 x)) ≡ over 3 (nextBytes f x q) x) × (k ≡ nextStored f x q)
   carried v k is =
-      let there = rw (lent-state, state-in n x q room) at is in
-      (rw (there .0) (returned 3 (stateSize n) (nextBytes n x q) x length-next), there .1)
+      let there = rw (lent-state, state-in f x q room) at is in
+      (rw (there .0) (returned 3 (stateSize f) (nextBytes f x q) x length-next), there .1)
 
 -- the pieces of the record l, with the summary su, were laid in x
-module _ (n : ℕ) (h l su x : List ℕ) (q : Request) (described : Described n h) (room : recordSize n ≤ length x) (long : length l ≡ recordSize n) (u : length su ≡ hashSize) (y : List ℕ) (laid : y ≡ over 0 (join (h ∷ stateBytes n l ∷ su ∷ [])) x) where
-  wide : length (stateBytes n l) ≡ stateSize n
-  wide = length-state n l (omega arith)
+module _ (f : Form) (l su x : List ℕ) (q : Request) (room : recordSize f ≤ length x) (long : length l ≡ recordSize f) (u : length su ≡ hashSize) (y : List ℕ) (laid : y ≡ over 0 (join (header f ∷ stateBytes f l ∷ su ∷ [])) x) where
+  wide : length (stateBytes f l) ≡ stateSize f
+  wide = length-state f l (omega arith)
 
-  pieces-laid : y ≡ over 0 (join (header n (getD h 2 0) ∷ stateBytes n l ∷ su ∷ [])) x
-  pieces-laid = laid ∙ ap (λ (m : List ℕ). over 0 (join (m ∷ stateBytes n l ∷ su ∷ [])) x) (described .is)
-
-  state-there : stateBytes n y ≡ stateBytes n l
-  state-there = ap (stateBytes n) pieces-laid ∙ laid-state n (getD h 2 0) (stateBytes n l) su x wide u room
+  state-there : stateBytes f y ≡ stateBytes f l
+  state-there = ap (stateBytes f) laid ∙ laid-state f (stateBytes f l) su x wide u room
 
   -- the request can be carried out there
-  pub ready-there : Ready (stateBytes n l) q → (recordSize n ≤ length y) × Ready (stateBytes n y) q
+  pub ready-there : Ready (stateBytes f l) q → (recordSize f ≤ length y) × Ready (stateBytes f y) q
   ready-there ready =
-      let kept : length y ≡ length x = ap length laid ∙ length-over 0 _ x (omega (arith, length-join (h ∷ stateBytes n l ∷ su ∷ []), length-described n h described, wide)) in
+      let kept : length y ≡ length x = ap length laid ∙ length-over 0 _ x (omega (arith, length-join (header f ∷ stateBytes f l ∷ su ∷ []), length-header f, wide)) in
       (omega arith, rw state-there ready)
 
   -- it was carried out there, and what stands there was sealed
-  pub written : (key : Prepared) (k : ℕ) (z w : List ℕ) → (z ≡ over 3 (nextBytes n y q) y) × (k ≡ nextStored n y q) → w ≡ sealed n key z
-      → (w ≡ over 0 (nextRecord n h key l q su) x) × ((k ≡ nextStored n l q) × (summary n w ≡ su))
+  pub written : (key : Prepared) (k : ℕ) (z w : List ℕ) → (z ≡ over 3 (nextBytes f y q) y) × (k ≡ nextStored f y q) → w ≡ sealed f key z
+      → (w ≡ over 0 (nextRecord f key l q su) x) × ((k ≡ nextStored f l q) × (summary f w ≡ su))
   written key k z w (moved, stored) is =
-      let hd = header n (getD h 2 0) in
-      let st = nextBytes n l q in
-      let size : length st ≡ stateSize n = length-next n q l (omega arith) in
-      let again = rw (length-header n (getD h 2 0)) at (relaid hd (stateBytes n l) st (su ++ []) x (size ∙ sym wide)) in
-      let there : z ≡ over 0 (join (hd ∷ st ∷ su ∷ [])) x = moved ∙ rw (state-there, pieces-laid) again in (
-        is ∙ rw there (sealed-laid n (getD h 2 0) st su x size u room key),
-        (stored ∙ ap (λ (m : List ℕ). rackAt (carryOut (stateOf n m) q) (rackOfRequest q) .stored) state-there, rw (is, there) (sealed-summary n (getD h 2 0) st su x size u room key)),
+      let st = nextBytes f l q in
+      let size : length st ≡ stateSize f = length-next f q l (omega arith) in
+      let again = rw (length-header f) at (relaid (header f) (stateBytes f l) st (su ++ []) x (size ∙ sym wide)) in
+      let there : z ≡ over 0 (join (header f ∷ st ∷ su ∷ [])) x = moved ∙ rw (state-there, laid) again in (
+        is ∙ rw there (sealed-laid f st su x size u room key),
+        (stored ∙ ap (λ (m : List ℕ). rackAt (carryOut (stateOf (f .racks) m) q) (rackOfRequest q) .stored) state-there, rw (is, there) (sealed-summary f st su x size u room key)),
       )

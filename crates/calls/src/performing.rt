@@ -12,6 +12,7 @@ use offers::Offer;
 use offers::current;
 use offers::test_offer;
 use offers::valid;
+use records::Form;
 use records::record_size;
 use records::summary_part;
 use refusals::Refusal;
@@ -24,11 +25,12 @@ ghost use lib.ListN.{length};
 ghost use Rattle.numbers.specs.Parts.{over, join};
 ghost use Rattle.requests.specs.Layout.{requestSize};
 ghost use Rattle.rules.specs.Ready.{Ready};
+ghost use Rattle.records.specs.Form.{formOf};
 ghost use Rattle.records.specs.Page.{pageSize};
-ghost use Rattle.records.specs.Record.{stateSize, recordSize, stateBytes, summary, Described};
+ghost use Rattle.records.specs.Record.{recordSize, stateBytes, summary, header};
 ghost use Rattle.hmac.specs.Preparation.{halves};
 ghost use Rattle.answers.specs.Answers.{performed};
-ghost use Rattle.offers.specs.Offers.{designOf};
+ghost use Rattle.answers.specs.Edition.{design};
 ghost use Rattle.calls.specs.Told.{told};
 ghost use Rattle.calls.specs.Next.{movedOn, nextStored, nextRecord};
 
@@ -38,23 +40,21 @@ pub fn perform(
     record: &[u8],
     request: &[u8],
     answer: &mut [u8],
-    header: &[u8],
-    racks: usize,
+    form: Form,
 ) -> PerformAnswer
-    requires { ⌜ Described racks (now header) ⌝ }
-    ensures { λ r. ⌜ told r (now (page .exit)) (now (answer .exit)) ≡ performed (designOf racks (now (header .entry))) (now (page .entry)) (now («record» .entry)) (now (request .entry)) (now (answer .entry)) ⌝ }
+    ensures { λ r. ⌜ told r (now (page .exit)) (now (answer .exit)) ≡ performed (design (formOf form)) (now (page .entry)) (now («record» .entry)) (now (request .entry)) (now (answer .entry)) ⌝ }
 {
-    match test_offer(page.len(), answer.len(), record, request, header, racks) {
+    match test_offer(page.len(), answer.len(), record, request, form) {
         Offer::Refused(r) => PerformAnswer::Refused(r),
         Offer::Formed(q) => {
             let key = prepared(page);
-            if !valid(&key.inner, &key.outer, record, racks) {
+            if !valid(&key.inner, &key.outer, record, form) {
                 return PerformAnswer::Refused(Refusal::Authenticator);
             }
-            if !current(page, record, racks) {
+            if !current(page, record, form) {
                 return PerformAnswer::Refused(Refusal::Current);
             }
-            match judge_record(record, q, racks) {
+            match judge_record(record, q, form) {
                 Ruling::Barred(r) => PerformAnswer::Refused(r),
                 Ruling::Free => {
                     let stored = write_performed(
@@ -63,10 +63,9 @@ pub fn perform(
                         request,
                         q,
                         answer,
-                        header,
                         &key.inner,
                         &key.outer,
-                        racks,
+                        form,
                     );
                     PerformAnswer::Done { stored }
                 }
@@ -82,50 +81,46 @@ fn write_performed<'a>(
     request: &[u8],
     q: Request,
     answer: &mut [u8],
-    header: &[u8],
     inner: &'a [u32; 8],
     outer: &'a [u32; 8],
-    racks: usize,
+    form: Form,
 ) -> u32
     requires { ⌜ length (now page) ≡ pageSize ⌝ }
     requires { ⌜ length (now request) ≡ requestSize ⌝ }
-    requires { ⌜ Described racks (now header) ⌝ }
-    requires { ⌜ recordSize racks ≤ length (now answer) ⌝ }
-    requires { ⌜ length (now «record») ≡ recordSize racks ⌝ }
-    requires { ⌜ Ready (stateBytes racks (now «record»)) q ⌝ }
-    ensures { λ _. ⌜ now (page .exit) ≡ over 0 (movedOn racks (now («record» .entry)) (now (request .entry))) (now (page .entry)) ⌝ }
-    ensures { λ _. ⌜ now (answer .exit) ≡ over 0 (nextRecord racks (now (header .entry)) (halves (now (inner .entry)) (now (outer .entry))) (now («record» .entry)) q (movedOn racks (now («record» .entry)) (now (request .entry)))) (now (answer .entry)) ⌝ }
-    ensures { λ r. ⌜ r ≡ nextStored racks (now («record» .entry)) q ⌝ }
+    requires { ⌜ recordSize (formOf form) ≤ length (now answer) ⌝ }
+    requires { ⌜ length (now «record») ≡ recordSize (formOf form) ⌝ }
+    requires { ⌜ Ready (stateBytes (formOf form) (now «record»)) q ⌝ }
+    ensures { λ _. ⌜ now (page .exit) ≡ over 0 (movedOn (formOf form) (now («record» .entry)) (now (request .entry))) (now (page .entry)) ⌝ }
+    ensures { λ _. ⌜ now (answer .exit) ≡ over 0 (nextRecord (formOf form) (halves (now (inner .entry)) (now (outer .entry))) (now («record» .entry)) q (movedOn (formOf form) (now («record» .entry)) (now (request .entry)))) (now (answer .entry)) ⌝ }
+    ensures { λ r. ⌜ r ≡ nextStored (formOf form) (now («record» .entry)) q ⌝ }
 {
-    lay_performed(answer, header, record, request, racks);
-    let stored = carry(answer, q, racks);
-    seal(answer, inner, outer, racks);
+    lay_performed(answer, record, request, form);
+    let stored = carry(answer, q, form);
+    seal(answer, inner, outer, form);
     let written = &answer[..];
-    move_page(page, written, racks);
+    move_page(page, written, form);
     stored
 }
 
 // Lays the header, the record's state and the next summary at the front of the answer.
-fn lay_performed(answer: &mut [u8], header: &[u8], record: &[u8], request: &[u8], racks: usize)
-    requires { ⌜ Described racks (now header) ⌝ }
-    requires { ⌜ recordSize racks ≤ length (now answer) ⌝ }
-    requires { ⌜ length (now «record») ≡ recordSize racks ⌝ }
+fn lay_performed(answer: &mut [u8], record: &[u8], request: &[u8], form: Form)
+    requires { ⌜ recordSize (formOf form) ≤ length (now answer) ⌝ }
+    requires { ⌜ length (now «record») ≡ recordSize (formOf form) ⌝ }
     requires { ⌜ length (now request) ≡ requestSize ⌝ }
-    ensures { λ _. ⌜ now (answer .exit) ≡ over 0 (join (now (header .entry) ∷ stateBytes racks (now («record» .entry)) ∷ movedOn racks (now («record» .entry)) (now (request .entry)) ∷ [])) (now (answer .entry)) ⌝ }
+    ensures { λ _. ⌜ now (answer .exit) ≡ over 0 (join (header (formOf form) ∷ stateBytes (formOf form) (now («record» .entry)) ∷ movedOn (formOf form) (now («record» .entry)) (now (request .entry)) ∷ [])) (now (answer .entry)) ⌝ }
 {
-    let own = summary_part(record, racks);
+    let own = summary_part(record, form);
     let hash = next_summary(own, request);
     let next: &[u8] = &hash;
-    lay_state(answer, header, record, next, racks);
+    lay_state(answer, record, next, form);
 }
 
 // Moves the page to the summary of the record in the answer.
-fn move_page(page: &mut [u8], answer: &[u8], racks: usize)
+fn move_page(page: &mut [u8], answer: &[u8], form: Form)
     requires { ⌜ length (now page) ≡ pageSize ⌝ }
-    requires { ⌜ recordSize racks ≤ length (now answer) ⌝ }
-    requires { ⌜ stateSize racks ≤ 65535 ⌝ }
-    ensures { λ _. ⌜ now (page .exit) ≡ over 0 (summary racks (now (answer .entry))) (now (page .entry)) ⌝ }
+    requires { ⌜ recordSize (formOf form) ≤ length (now answer) ⌝ }
+    ensures { λ _. ⌜ now (page .exit) ≡ over 0 (summary (formOf form) (now (answer .entry))) (now (page .entry)) ⌝ }
 {
-    let size = record_size(racks);
-    copy(page, 0, summary_part(&answer[..size], racks));
+    let size = record_size(form);
+    copy(page, 0, summary_part(&answer[..size], form));
 }

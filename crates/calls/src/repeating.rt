@@ -11,6 +11,7 @@ use numbers::same;
 use offers::Offer;
 use offers::test_offer;
 use offers::valid;
+use records::Form;
 use records::page_summary;
 use records::summary_part;
 use refusals::Refusal;
@@ -23,11 +24,12 @@ ghost use Rattle.numbers.specs.Parts.{over};
 ghost use Rattle.numbers.specs.Comparing.{same};
 ghost use Rattle.requests.specs.Layout.{requestSize};
 ghost use Rattle.rules.specs.Ready.{Ready};
+ghost use Rattle.records.specs.Form.{formOf};
 ghost use Rattle.records.specs.Page.{pageSize, pageSummary};
-ghost use Rattle.records.specs.Record.{recordSize, stateBytes, Described};
+ghost use Rattle.records.specs.Record.{recordSize, stateBytes};
 ghost use Rattle.hmac.specs.Preparation.{halves};
 ghost use Rattle.answers.specs.Answers.{repeated};
-ghost use Rattle.offers.specs.Offers.{designOf};
+ghost use Rattle.answers.specs.Edition.{design};
 ghost use Rattle.calls.specs.Told.{told};
 ghost use Rattle.calls.specs.Next.{movedOn, nextStored, nextRecord};
 
@@ -37,23 +39,21 @@ pub fn repeat(
     record: &[u8],
     request: &[u8],
     answer: &mut [u8],
-    header: &[u8],
-    racks: usize,
+    form: Form,
 ) -> PerformAnswer
-    requires { ⌜ Described racks (now header) ⌝ }
-    ensures { λ r. ⌜ told r (now (page .entry)) (now (answer .exit)) ≡ repeated (designOf racks (now (header .entry))) (now (page .entry)) (now («record» .entry)) (now (request .entry)) (now (answer .entry)) ⌝ }
+    ensures { λ r. ⌜ told r (now (page .entry)) (now (answer .exit)) ≡ repeated (design (formOf form)) (now (page .entry)) (now («record» .entry)) (now (request .entry)) (now (answer .entry)) ⌝ }
 {
-    match test_offer(page.len(), answer.len(), record, request, header, racks) {
+    match test_offer(page.len(), answer.len(), record, request, form) {
         Offer::Refused(r) => PerformAnswer::Refused(r),
         Offer::Formed(q) => {
             let key = prepared(page);
-            if !valid(&key.inner, &key.outer, record, racks) {
+            if !valid(&key.inner, &key.outer, record, form) {
                 return PerformAnswer::Refused(Refusal::Authenticator);
             }
-            if !leads_to(page, record, request, racks) {
+            if !leads_to(page, record, request, form) {
                 return PerformAnswer::Refused(Refusal::Current);
             }
-            match judge_record(record, q, racks) {
+            match judge_record(record, q, form) {
                 Ruling::Barred(r) => PerformAnswer::Refused(r),
                 Ruling::Free => {
                     let stored = write_repeated(
@@ -61,10 +61,9 @@ pub fn repeat(
                         record,
                         q,
                         answer,
-                        header,
                         &key.inner,
                         &key.outer,
-                        racks,
+                        form,
                     );
                     PerformAnswer::Done { stored }
                 }
@@ -74,13 +73,13 @@ pub fn repeat(
 }
 
 // Test 8 of repeat: whether the record's summary, moved on by the request, is the page's.
-fn leads_to(page: &[u8], record: &[u8], request: &[u8], racks: usize) -> bool
+fn leads_to(page: &[u8], record: &[u8], request: &[u8], form: Form) -> bool
     requires { ⌜ length (now page) ≡ pageSize ⌝ }
-    requires { ⌜ length (now «record») ≡ recordSize racks ⌝ }
+    requires { ⌜ length (now «record») ≡ recordSize (formOf form) ⌝ }
     requires { ⌜ length (now request) ≡ requestSize ⌝ }
-    ensures { λ r. ⌜ r ≡ same (movedOn racks (now («record» .entry)) (now (request .entry))) (pageSummary (now (page .entry))) ⌝ }
+    ensures { λ r. ⌜ r ≡ same (movedOn (formOf form) (now («record» .entry)) (now (request .entry))) (pageSummary (now (page .entry))) ⌝ }
 {
-    let own = summary_part(record, racks);
+    let own = summary_part(record, form);
     let hash = next_summary(own, request);
     let next: &[u8] = &hash;
     let held = page_summary(page);
@@ -93,21 +92,19 @@ fn write_repeated<'a>(
     record: &[u8],
     q: Request,
     answer: &mut [u8],
-    header: &[u8],
     inner: &'a [u32; 8],
     outer: &'a [u32; 8],
-    racks: usize,
+    form: Form,
 ) -> u32
     requires { ⌜ length (now page) ≡ pageSize ⌝ }
-    requires { ⌜ Described racks (now header) ⌝ }
-    requires { ⌜ recordSize racks ≤ length (now answer) ⌝ }
-    requires { ⌜ length (now «record») ≡ recordSize racks ⌝ }
-    requires { ⌜ Ready (stateBytes racks (now «record»)) q ⌝ }
-    ensures { λ _. ⌜ now (answer .exit) ≡ over 0 (nextRecord racks (now (header .entry)) (halves (now (inner .entry)) (now (outer .entry))) (now («record» .entry)) q (pageSummary (now (page .entry)))) (now (answer .entry)) ⌝ }
-    ensures { λ r. ⌜ r ≡ nextStored racks (now («record» .entry)) q ⌝ }
+    requires { ⌜ recordSize (formOf form) ≤ length (now answer) ⌝ }
+    requires { ⌜ length (now «record») ≡ recordSize (formOf form) ⌝ }
+    requires { ⌜ Ready (stateBytes (formOf form) (now «record»)) q ⌝ }
+    ensures { λ _. ⌜ now (answer .exit) ≡ over 0 (nextRecord (formOf form) (halves (now (inner .entry)) (now (outer .entry))) (now («record» .entry)) q (pageSummary (now (page .entry)))) (now (answer .entry)) ⌝ }
+    ensures { λ r. ⌜ r ≡ nextStored (formOf form) (now («record» .entry)) q ⌝ }
 {
-    lay_state(answer, header, record, page_summary(page), racks);
-    let stored = carry(answer, q, racks);
-    seal(answer, inner, outer, racks);
+    lay_state(answer, record, page_summary(page), form);
+    let stored = carry(answer, q, form);
+    seal(answer, inner, outer, form);
     stored
 }

@@ -13,7 +13,7 @@ use Rattle.answers.proofs.States.{record-good, served-good}
 use Rattle.histories.specs.Runs.{Fresh}
 use Rattle.histories.specs.Laws.{Laws}
 use Rattle.histories.specs.Ties.{NumberLaws}
-use Rattle.histories.specs.Toy.{toyHash, toy, fresh}
+use Rattle.histories.specs.Toy.{toyHash, oneRack, toy, fresh}
 use Rattle.histories.proofs.EditionLaws.{summary-is-32, page-stays-right, summary-is-put, key-stays, early-numbers, behind-numbers}
 
 length-toyHash : (m : List ℕ) → length (toyHash m) ≡ hashSize
@@ -25,16 +25,16 @@ toy-laws =
     record {
       length-hash = length-toyHash;
       states-apart = λ a b e. ap (drop 1) e;
-      length-summary = summary-is-32 1 1;
+      length-summary = summary-is-32 oneRack;
       right-page = page-stays-right;
       page-summary = summary-is-put;
       page-mac = λ page s bound right long. ap (λ (key : List ℕ). toyHash (key ++ bound)) (key-stays page s right long);
       length-next = λ page l request state passed serves.
-          length-record 1 1 state _ _ (served-good 1 (stateBytes 1 l) request state (record-good 1 1 l passed) serves .size) (length-toyHash _) (length-toyHash _);
+          length-record oneRack state _ _ (served-good 1 (stateBytes oneRack l) request state (record-good oneRack l passed) serves .size) (length-toyHash _) (length-toyHash _);
     }
 
 pub toy-numbers : NumberLaws toy
-toy-numbers = record { early = early-numbers 1 1; behind = behind-numbers 1 }
+toy-numbers = record { early = early-numbers oneRack; behind = behind-numbers 1 }
 
 pub fresh-is : Fresh toy fresh
 unfolding zeroSummary part

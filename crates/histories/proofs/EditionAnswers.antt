@@ -4,6 +4,7 @@ use mathlib.Core.Path.{_≡_, refl}
 use Prim.Native.Nat.{ℕ}
 use native.Mathlib.Omega.{arith}
 use mathlib.Core.List.{List, [], _∷_}
+use Rattle.records.specs.Form.{Form}
 use Rattle.records.specs.declared.Tested.{Tested}
 use Rattle.records.specs.declared.Tested.the-variants.{Passed, Refused}
 use Rattle.answers.specs.Design.{Design, Served}
@@ -57,19 +58,19 @@ answer-alike D left l request stale = refl
 answer-alike D left l request (barred r) = refl
 answer-alike D left l request (good state) = refl
 
-pub answers-are-counted : (n v : ℕ) (page : List ℕ) → AnswersAreCounted (design n v) page
+pub answers-are-counted : (f : Form) (page : List ℕ) → AnswersAreCounted (design f) page
 unfolding opened performed repeated
-answers-are-counted n v page =
-    let D = design n v in
+answers-are-counted f page =
+    let D = design f in
     record {
       byOpen = λ answer.
           open-counted D page (opened D page answer .page) answer _ (openTests D page answer)
-          (λ passed. reads-bound D _ _ _ _ (reads-back n v .opens page answer (rw passed refl) .1 .reads));
+          (λ passed. reads-bound D _ _ _ _ (reads-back f .opens page answer (rw passed refl) .1 .reads));
       byPerform = λ l request answer.
           perform-counted D page (performed D page l request answer .page) l request answer _ _ (performVerdict D page l request answer)
-          (λ state e. answered-bound D l request answer state _ (perform-good D page l request answer state e) (reads-back n v .performs page l request answer (rw e refl)));
+          (λ state e. answered-bound D l request answer state _ (perform-good D page l request answer state e) (reads-back f .performs page l request answer (rw e refl)));
       byRepeat = λ l request answer.
           rw (answer-alike D (repeated D page l request answer .page) l request (repeatVerdict D page l request answer))
           (perform-counted D page (repeated D page l request answer .page) l request answer _ _ (repeatVerdict D page l request answer)
-          (λ state e. answered-bound D l request answer state _ (repeat-good D page l request answer state e) (reads-back n v .repeats page l request answer (rw e refl))));
+          (λ state e. answered-bound D l request answer state _ (repeat-good D page l request answer state e) (reads-back f .repeats page l request answer (rw e refl))));
     }

@@ -1,7 +1,7 @@
 -- The design that ships, at any number of racks and any version, has what the argument asks of a design: a hash takes 32 bytes, summaries
 -- are read where they are written, records are of their size, and refusals have the numbers of their tests. The hash itself stays closed.
 -- Assumes nothing.
-use mathlib.Core.Path.{_≡_, refl, sym, ap, _∙_}
+use mathlib.Core.Path.{_≡_, refl, sym, ap}
 use mathlib.Core.Bool.{Bool, true, false, cond}
 use Prim.Native.Nat.{ℕ, _+_, _<_}
 use native.Mathlib.Omega.{arith}
@@ -17,10 +17,10 @@ use Rattle.refusals.specs.Numbers.{numberOf}
 use Rattle.racks.specs.Layout.{stateOf}
 use Rattle.requests.specs.Formed.{wellFormed}
 use Rattle.requests.specs.Requests.{requestOf, readRequest}
-use Rattle.rules.specs.declared.Ruling.{Ruling}
 use Rattle.rules.specs.declared.Ruling.the-variants.{Free, Barred}
 use Rattle.rules.specs.Rules.{overCapacity, overStored, overLimit, ruling, carryOut}
 use Rattle.rules.specs.Replay.{byRuling, book}
+use Rattle.records.specs.Form.{Form}
 use Rattle.records.specs.declared.Tested.the-variants.{Passed, Refused}
 use Rattle.records.specs.Page.{hashSize, pageSize, pageSummary, pageKey}
 use Rattle.records.specs.Record.{stateSize, stateBytes, summary, rightSize, rightVersion, rightState}
@@ -44,11 +44,11 @@ first-test : (size version state : Bool) → cond size (cond version (cond state
 first-test true version state e = refl
 first-test false version state e = let z : _≡_ {A = ℕ} 0 1 = cc in absurd (omega arith)
 
-pub summary-is-32 : (n v : ℕ) (l : List ℕ) → tested n v l ≡ Passed → length (summary n l) ≡ hashSize
+pub summary-is-32 : (f : Form) (l : List ℕ) → tested f l ≡ Passed → length (summary f l) ≡ hashSize
 unfolding tested
-summary-is-32 n v l e =
-    let long = right-length n l (first-test (rightSize n l) (rightVersion n v l) (rightState n l) e) in
-    length-part (2 + 1 + stateSize n) hashSize l (omega arith)
+summary-is-32 f l e =
+    let long = right-length f l (first-test (rightSize f l) (rightVersion f l) (rightState f l) e) in
+    length-part (2 + 1 + stateSize f) hashSize l (omega arith)
 
 -- ---- a page with another summary
 
@@ -65,18 +65,18 @@ module _ (page s : List ℕ) (right : eqb (length page) pageSize ≡ true) (wide
   pub key-stays : pageKey (over 0 s page) ≡ pageKey page
   key-stays = key-put page s long wide
 
-pub laws : (n v : ℕ) → Laws (design n v)
-laws n v =
+pub laws : (f : Form) → Laws (design f)
+laws f =
     record {
       length-hash = length-sha256;
       states-apart = λ a b e. ap (drop 1) e;
-      length-summary = summary-is-32 n v;
+      length-summary = summary-is-32 f;
       right-page = page-stays-right;
       page-summary = summary-is-put;
       page-mac = λ page s bound right long. ap (λ (key : List ℕ). authenticatorOf key [] bound) (key-stays page s right long);
       length-next = λ page l request state passed serves.
-          length-bound n v page (nextSummary (design n v) (summary n l) request) state (length-next n v (summary n l) request)
-          (served-good n (stateBytes n l) request state (record-good n v l passed) serves .size);
+          length-bound f page (nextSummary (design f) (summary f l) request) state (length-next f (summary f l) request)
+          (served-good (f .racks) (stateBytes f l) request state (record-good f l passed) serves .size);
     }
 
 -- ---- the numbers of refusals
@@ -96,9 +96,9 @@ behind-number false true limit state r e = let is : Stored ≡ r = cc in rw (sym
 behind-number false false true state r e = let is : Limit ≡ r = cc in rw (sym is) (omega arith)
 behind-number false false false state r e = let z : _≡_ {A = ℕ} 0 1 = cc in absurd (omega arith)
 
-pub early-numbers : (n v : ℕ) (l : List ℕ) (r : Refusal) → tested n v l ≡ Refused r → numberOf r < numberOf Authenticator
+pub early-numbers : (f : Form) (l : List ℕ) (r : Refusal) → tested f l ≡ Refused r → numberOf r < numberOf Authenticator
 unfolding tested
-early-numbers n v l r e = early-number (rightSize n l) (rightVersion n v l) (rightState n l) r e
+early-numbers f l r e = early-number (rightSize f l) (rightVersion f l) (rightState f l) r e
 
 pub behind-numbers : (n : ℕ) (state request : List ℕ) (r : Refusal) → wellFormed n request ≡ true → servedBytes n state request ≡ Served.barred r
     → numberOf Current < numberOf r
@@ -108,5 +108,5 @@ behind-numbers n state request r formed e =
     let q = requestOf request in
     behind-number (overCapacity s q) (overStored s q) (overLimit s q) (carryOut s q) r (rw formed at e)
 
-pub number-laws : (n v : ℕ) → NumberLaws (design n v)
-number-laws n v = record { early = early-numbers n v; behind = behind-numbers n }
+pub number-laws : (f : Form) → NumberLaws (design f)
+number-laws f = record { early = early-numbers f; behind = behind-numbers (f .racks) }

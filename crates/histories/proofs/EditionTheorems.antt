@@ -1,7 +1,7 @@
 -- The third condition, the afternoon and the duty for the keeper that ships, under the condition's own premises and under those that the
 -- argument needs. The idea: each is the theorem over any design at this edition; the racks' figures and the sums come from the replay of
 -- the charge rules. Assumes nothing.
-use mathlib.Core.Path.{_≡_, refl, ap, _∙_}
+use mathlib.Core.Path.{_≡_, ap, _∙_}
 use mathlib.Core.Logic.{⊎-elim}
 use Prim.Native.Nat.{ℕ, _<_}
 use native.Mathlib.Omega.{arith}
@@ -11,9 +11,8 @@ use Rattle.refusals.specs.Numbers.{numberOf}
 use Rattle.racks.specs.Layout.{stateOf}
 use Rattle.racks.specs.Edition.{racks}
 use Rattle.rules.proofs.Replays.{total-replay}
+use Rattle.records.specs.Form.{version1}
 use Rattle.records.specs.Record.{stateBytes, state}
-use Rattle.records.specs.Edition.{recordVersion}
-use Rattle.answers.specs.Design.{Served}
 use Rattle.answers.specs.Edition.{thisEdition}
 use Rattle.histories.specs.Calls.{performs}
 use Rattle.histories.specs.Runs.{cutBefore, Run, Fresh, inRun}
@@ -35,15 +34,15 @@ use Rattle.histories.proofs.EditionBook.{reads-back, books}
 -- a record that holds what the service gives for the requests that moved the page has a true book
 true-record : (fresh : List ℕ) (older : Run) (l : List ℕ) → Replayed thisEdition fresh older l → TrueRecord fresh older l
 true-record fresh older l e =
-    let b = books racks recordVersion _ (stateBytes racks l) e in
-    let read : state racks l ≡ b .state = ap (stateOf racks) (b .written) ∙ reads-back racks (b .state) (b .racks) (b .good) in
+    let b = books version1 _ (stateBytes version1 l) e in
+    let read : state version1 l ≡ b .state = ap (stateOf racks) (b .written) ∙ reads-back racks (b .state) (b .racks) (b .good) in
     rw read (record { racksAre = b .replays; chargeIs = total-replay racks (b .state) _ (b .replays) })
 
 these-laws : Laws thisEdition
-these-laws = laws racks recordVersion
+these-laws = laws version1
 
 these-numbers : NumberLaws thisEdition
-these-numbers = number-laws racks recordVersion
+these-numbers = number-laws version1
 
 -- 9, 10 and 11 come behind 8
 one-of : (k : ℕ) → List·Memᴰ k (0 ∷ 9 ∷ 10 ∷ 11 ∷ []) → (A : Type 0) → (k ≡ 0 → A) → (numberOf Current < k → A) → A

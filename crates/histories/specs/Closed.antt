@@ -9,6 +9,7 @@ use Rattle.racks.specs.Figures.{totalStored}
 use Rattle.racks.specs.Edition.{racks}
 use Rattle.rules.specs.Replay.{Booked, replay}
 use Rattle.rules.specs.Sums.{sumCharged, sumDischarged}
+use Rattle.records.specs.Form.{version1}
 use Rattle.records.specs.Record.{state}
 use Rattle.answers.specs.Hashing.{bindingIn}
 use Rattle.answers.specs.Answers.{performed, viewed, Resumed, resumed}
@@ -27,7 +28,7 @@ pub record TrueBook (requests : List (List ℕ)) (s : State) : Type 0 where
 
 -- a record holds such a state, of the requests that moved the page
 abbrev pub TrueRecord : List ℕ → Run → List ℕ → Type 0
-TrueRecord fresh older l = TrueBook (requestsBefore thisEdition fresh older) (state racks l)
+TrueRecord fresh older l = TrueBook (requestsBefore thisEdition fresh older) (state version1 l)
 
 abbrev pub TakenAreTrue : List ℕ → Run → Type 0
 TakenAreTrue fresh run = AtEach (λ older s. (l : List ℕ) → List·Memᴰ l (doneBy thisEdition fresh older s .taken) → TrueRecord fresh older l) run
@@ -43,7 +44,7 @@ PerformedAreTrue fresh run =
 abbrev pub ViewedAreTrue : List ℕ → Run → Type 0
 ViewedAreTrue fresh run =
     AtEach (λ older s. (l : List ℕ) (rack : ℕ) → callOf s ≡ views l rack → viewed thisEdition (pageAfter thisEdition fresh older) l rack .number ≡ 0
-    → TrueRecord fresh older l × (viewed thisEdition (pageAfter thisEdition fresh older) l rack .figures ≡ figuresOf (state racks l) rack)) run
+    → TrueRecord fresh older l × (viewed thisEdition (pageAfter thisEdition fresh older) l rack .figures ≡ figuresOf (state version1 l) rack)) run
 
 -- the record that resume hands back holds such a state
 abbrev pub ResumedAreTrue : List ℕ → Run → Type 0

@@ -18,6 +18,7 @@ use Rattle.requests.specs.Formed.{rightForm, rightOther, rightAmount, wellForme
 use Rattle.requests.specs.Requests.{requestBy, requestOf, readRequest}
 use Rattle.rules.specs.Rules.{overCapacity, overStored, overLimit, ruling, carryOut}
 use Rattle.rules.specs.Replay.{book}
+use Rattle.records.specs.Form.{Form}
 use Rattle.records.specs.Page.{zeroSummary, pageKey}
 use Rattle.records.specs.Record.{recordOf, rightSize, rightVersion, rightState}
 use Rattle.records.specs.Tests.{tested}
@@ -44,10 +45,14 @@ pub toy-collides : (toyHash (chargeOf 31) ≡ toyHash (chargeOf 256)) × (same (
 unfolding toyHash bytesOf bytesOfRequest zeroSummary same
 toy-collides = (refl, refl)
 
--- this edition's design at one rack, with the stand-in for the hash and for the MAC
+-- a form of one rack
+abbrev pub oneRack : Form
+oneRack = record { racks = 1; version = 1; tag = 0x01 }
+
+-- this edition's design at that form, with the stand-in for the hash and for the MAC
 abbrev pub toy : Design
 toy =
-    let D = design 1 1 in
+    let D = design oneRack in
     record {
       hash = toyHash;
       stateMessage = D .stateMessage;

@@ -6,7 +6,7 @@ use crate::repeat;
 use crate::view;
 use calls::PerformAnswer;
 use opens::OpenAnswer;
-use racks::RACKS;
+use records::Form;
 use refusals::number;
 use views::ViewAnswer;
 use views::Which;
@@ -135,7 +135,7 @@ pub extern "C" fn keeper_view_total(page: &[u8], record: &[u8], rack: u32) -> u3
 pub extern "C" fn keeper_resume(page: &[u8], ram: &[u8], disk: &[u8]) -> u32
     ensures { λ r. ⌜ r ≡ resumedNumber (resumed thisEdition (now (page .entry)) (now (ram .entry)) (now (disk .entry))) ⌝ }
 {
-    match choose(page, ram, disk, b"\x01\xC1\x01", RACKS) {
+    match choose(page, ram, disk, Form::Version1) {
         Which::Neither => 0,
         Which::Ram => 1,
         Which::Disk => 2,

@@ -4,12 +4,13 @@ use mathlib.Core.Path.{_≡_, ap}
 use Prim.Native.Nat.{ℕ}
 use mathlib.Core.List.{List, [], _∷_, _++_, append-nil}
 use Rattle.sha256.specs.Computation.{sha256}
-use Rattle.bindings.specs.Hashed.{stateTag, stateMessage}
+use Rattle.records.specs.Form.{Form}
+use Rattle.bindings.specs.Hashed.{stateMessage}
 use Rattle.memoir.specs.Storage.{LL1UntrustedStorageType, LL1TrustedStorageType, LL1Vars}
 
 -- nothing is hashed behind a state
-pub state-hash : (state : List ℕ) → sha256 (stateTag ∷ state ++ []) ≡ sha256 (stateMessage state)
-state-hash state = ap (λ (m : List ℕ). sha256 (stateTag ∷ m)) (append-nil state)
+pub state-hash : (f : Form) (state : List ℕ) → sha256 (f .tag ∷ state ++ []) ≡ sha256 (stateMessage f state)
+state-hash f state = ap (λ (m : List ℕ). sha256 (f .tag ∷ m)) (append-nil state)
 
 -- storage with equal parts is equal
 pub storage-is : {a b c d e f : List ℕ} → a ≡ b → c ≡ d → e ≡ f

@@ -14,6 +14,7 @@ use Rattle.requests.specs.declared.Reading.the-variants.{Formed, Malformed}
 use Rattle.requests.specs.Formed.{wellFormed}
 use Rattle.requests.specs.Requests.{requestOf, readRequest}
 use Rattle.requests.proofs.Formed.{read-formed}
+use Rattle.records.specs.Form.{Form}
 use Rattle.records.specs.declared.Tested.{Tested}
 use Rattle.records.specs.declared.Tested.the-variants.{Passed, Refused}
 use Rattle.records.specs.Page.{pageSize}
@@ -34,47 +35,47 @@ malformed n request read = malformed-by (wellFormed n request) (requestOf reques
 
 -- ---- of perform and of repeat
 
-module _ (n v page room : ℕ) (l request : List ℕ) where
+module _ (f : Form) (page room : ℕ) (l request : List ℕ) where
   -- the tests' own values
-  offered-by : (a b d : Bool) (t : Tested) → eqb page pageSize ≡ a → leb (recordSize n) room ≡ b → tested n v l ≡ t → wellFormed n request ≡ d
-      → offeredAt n v page room l request ≡ andThen (unless a Page) (andThen (unless b Answer) (andThen t (unless d RequestRefusal)))
+  offered-by : (a b d : Bool) (t : Tested) → eqb page pageSize ≡ a → leb (recordSize f) room ≡ b → tested f l ≡ t → wellFormed (f .racks) request ≡ d
+      → offeredAt f page room l request ≡ andThen (unless a Page) (andThen (unless b Answer) (andThen t (unless d RequestRefusal)))
   offered-by a b d t p q r s = rw (p, q, r, s) refl
 
-  pub offer-1 : (page ≡ pageSize → ⊥) → RefusedOffer Page ≡ offerBy (offeredAt n v page room l request) (requestOf request)
+  pub offer-1 : (page ≡ pageSize → ⊥) → RefusedOffer Page ≡ offerBy (offeredAt f page room l request) (requestOf request)
   offer-1 other = rw (offered-by false _ _ _ (ne-eqb page pageSize other) refl refl refl) refl
 
-  pub offer-2 : page ≡ pageSize → room < recordSize n → RefusedOffer Answer ≡ offerBy (offeredAt n v page room l request) (requestOf request)
-  offer-2 size short = rw (offered-by true false _ _ (eq-eqb page pageSize size) (lt-leb (recordSize n) room short) refl refl) refl
+  pub offer-2 : page ≡ pageSize → room < recordSize f → RefusedOffer Answer ≡ offerBy (offeredAt f page room l request) (requestOf request)
+  offer-2 size short = rw (offered-by true false _ _ (eq-eqb page pageSize size) (lt-leb (recordSize f) room short) refl refl) refl
 
-  module _ (size : page ≡ pageSize) (wide : recordSize n ≤ room) where
-    pub offer-5 : (t : Tested) (r : Refusal) → t ≡ tested n v l → t ≡ Refused r → RefusedOffer r ≡ offerBy (offeredAt n v page room l request) (requestOf request)
-    offer-5 t r test found = rw (offered-by true true _ _ (eq-eqb page pageSize size) (le-leb (recordSize n) room wide) (sym test ∙ found) refl) refl
+  module _ (size : page ≡ pageSize) (wide : recordSize f ≤ room) where
+    pub offer-5 : (t : Tested) (r : Refusal) → t ≡ tested f l → t ≡ Refused r → RefusedOffer r ≡ offerBy (offeredAt f page room l request) (requestOf request)
+    offer-5 t r test found = rw (offered-by true true _ _ (eq-eqb page pageSize size) (le-leb (recordSize f) room wide) (sym test ∙ found) refl) refl
 
-    module _ (t : Tested) (x : Reading) (test : t ≡ tested n v l) (passed : t ≡ Passed) (read : x ≡ readRequest n request) where
-      pub offer-6 : x ≡ Malformed → RefusedOffer RequestRefusal ≡ offerBy (offeredAt n v page room l request) (requestOf request)
-      offer-6 found = rw (offered-by true true false _ (eq-eqb page pageSize size) (le-leb (recordSize n) room wide) (sym test ∙ passed) (malformed n request (sym read ∙ found))) refl
+    module _ (t : Tested) (x : Reading) (test : t ≡ tested f l) (passed : t ≡ Passed) (read : x ≡ readRequest (f .racks) request) where
+      pub offer-6 : x ≡ Malformed → RefusedOffer RequestRefusal ≡ offerBy (offeredAt f page room l request) (requestOf request)
+      offer-6 found = rw (offered-by true true false _ (eq-eqb page pageSize size) (le-leb (recordSize f) room wide) (sym test ∙ passed) (malformed (f .racks) request (sym read ∙ found))) refl
 
-      pub offer-formed : (q : Request) → x ≡ Formed q → FormedOffer q ≡ offerBy (offeredAt n v page room l request) (requestOf request)
+      pub offer-formed : (q : Request) → x ≡ Formed q → FormedOffer q ≡ offerBy (offeredAt f page room l request) (requestOf request)
       offer-formed q found =
-          let formed = read-formed n request q (sym read ∙ found) in
-          rw (offered-by true true true _ (eq-eqb page pageSize size) (le-leb (recordSize n) room wide) (sym test ∙ passed) (formed .0), formed .1) refl
+          let formed = read-formed (f .racks) request q (sym read ∙ found) in
+          rw (offered-by true true true _ (eq-eqb page pageSize size) (le-leb (recordSize f) room wide) (sym test ∙ passed) (formed .0), formed .1) refl
 
 -- ---- of view
 
-module _ (n v page : ℕ) (l : List ℕ) (rack : ℕ) where
-  looked-by : (a d : Bool) (t : Tested) → eqb page pageSize ≡ a → tested n v l ≡ t → ltb rack n ≡ d
-      → lookedAt n v page l rack ≡ andThen (unless a Page) (andThen t (unless d RequestRefusal))
+module _ (f : Form) (page : ℕ) (l : List ℕ) (rack : ℕ) where
+  looked-by : (a d : Bool) (t : Tested) → eqb page pageSize ≡ a → tested f l ≡ t → ltb rack (f .racks) ≡ d
+      → lookedAt f page l rack ≡ andThen (unless a Page) (andThen t (unless d RequestRefusal))
   looked-by a d t p q r = rw (p, q, r) refl
 
-  pub look-1 : (page ≡ pageSize → ⊥) → Refused Page ≡ lookedAt n v page l rack
+  pub look-1 : (page ≡ pageSize → ⊥) → Refused Page ≡ lookedAt f page l rack
   look-1 other = sym (looked-by false _ _ (ne-eqb page pageSize other) refl refl)
 
-  module _ (size : page ≡ pageSize) (t : Tested) (test : t ≡ tested n v l) where
-    pub look-5 : (r : Refusal) → t ≡ Refused r → Refused r ≡ lookedAt n v page l rack
+  module _ (size : page ≡ pageSize) (t : Tested) (test : t ≡ tested f l) where
+    pub look-5 : (r : Refusal) → t ≡ Refused r → Refused r ≡ lookedAt f page l rack
     look-5 r found = sym (looked-by true _ _ (eq-eqb page pageSize size) (sym test ∙ found) refl)
 
-    pub look-6 : t ≡ Passed → n ≤ rack → Refused RequestRefusal ≡ lookedAt n v page l rack
-    look-6 passed outside = sym (looked-by true false _ (eq-eqb page pageSize size) (sym test ∙ passed) (le-ltb rack n outside))
+    pub look-6 : t ≡ Passed → (f .racks) ≤ rack → Refused RequestRefusal ≡ lookedAt f page l rack
+    look-6 passed outside = sym (looked-by true false _ (eq-eqb page pageSize size) (sym test ∙ passed) (le-ltb rack (f .racks) outside))
 
-    pub look-passed : t ≡ Passed → rack < n → Passed ≡ lookedAt n v page l rack
-    look-passed passed inside = sym (looked-by true true _ (eq-eqb page pageSize size) (sym test ∙ passed) (lt-ltb rack n inside))
+    pub look-passed : t ≡ Passed → rack < (f .racks) → Passed ≡ lookedAt f page l rack
+    look-passed passed inside = sym (looked-by true true _ (eq-eqb page pageSize size) (sym test ∙ passed) (lt-ltb rack (f .racks) inside))

@@ -1,7 +1,7 @@
 -- What is known once tests 1 to 6 have passed: of the record, of the request and of the rack. Assumes nothing.
 use mathlib.Core.Path.{_≡_, refl}
 use mathlib.Core.Bool.{Bool, true, false, cond}
-use Prim.Native.Nat.{ℕ, _≤_}
+use Prim.Native.Nat.{ℕ}
 use native.Mathlib.Omega.{arith}
 use mathlib.Core.List.{List}
 use lib.ListN.{length}
@@ -16,15 +16,16 @@ use Rattle.requests.specs.Formed.{wellFormed}
 use Rattle.requests.specs.Requests.{requestOf, readRequest}
 use Rattle.requests.specs.Range.{Named, InRange}
 use Rattle.requests.proofs.Formed.{read-formed, in-range, formed-form}
+use Rattle.records.specs.Form.{Form}
 use Rattle.records.specs.declared.Tested.{Tested}
 use Rattle.records.specs.declared.Tested.the-variants.{Passed, Refused}
 use Rattle.records.specs.Page.{pageSize}
-use Rattle.records.specs.Record.{stateSize, recordSize, state, rightSize, rightVersion, rightState, Described}
+use Rattle.records.specs.Record.{recordSize, state, rightSize, rightVersion, rightState}
 use Rattle.records.specs.Tests.{tested}
 use Rattle.records.proofs.Headers.{right-length}
 use Rattle.answers.specs.Judging.{unless, andThen}
 use Rattle.offers.specs.declared.Offer.the-variants.{Formed as FormedOffer, Refused as RefusedOffer}
-use Rattle.offers.specs.Offers.{offeredAt, lookedAt, offerBy, Offered, Looked}
+use Rattle.offers.specs.Offers.{offeredAt, lookedAt, offerBy, PassedOffer, PassedLook}
 
 -- ---- an offer
 
@@ -46,28 +47,28 @@ pub held : (b : Bool) (r : Refusal) → unless b r ≡ Passed → b ≡ true
 held true r e = refl
 held false r e = let z : _≡_ {A = ℕ} 0 1 = cc in absurd (omega arith)
 
-pub offered : (n v page room : ℕ) (l request : List ℕ) (q : Request) → offeredAt n v page room l request ≡ Passed → requestOf request ≡ q → Offered n v page room l request q
+pub offered : (f : Form) (page room : ℕ) (l request : List ℕ) (q : Request) → offeredAt f page room l request ≡ Passed → requestOf request ≡ q → PassedOffer f page room l request q
 unfolding readRequest
-offered n v page room l request q tests asks =
+offered f page room l request q tests asks =
     let one = both (unless (eqb page pageSize) Page) _ tests in
-    let two = both (unless (leb (recordSize n) room) Answer) _ (one .1) in
-    let five = both (tested n v l) _ (two .1) in
-    let six : wellFormed n request ≡ true = held (wellFormed n request) RequestRefusal (five .1) in
+    let two = both (unless (leb (recordSize f) room) Answer) _ (one .1) in
+    let five = both (tested f l) _ (two .1) in
+    let six : wellFormed (f .racks) request ≡ true = held (wellFormed (f .racks) request) RequestRefusal (five .1) in
     record {
       size = eqb-true page pageSize (held _ Page (one .0));
-      answer = leb-true (recordSize n) room (held _ Answer (two .0));
+      answer = leb-true (recordSize f) room (held _ Answer (two .0));
       passed = five .0;
       read = rw (six, asks) refl;
     }
 
-pub looked : (n v page : ℕ) (l : List ℕ) (rack : ℕ) → lookedAt n v page l rack ≡ Passed → Looked n v page l rack
-looked n v page l rack tests =
+pub looked : (f : Form) (page : ℕ) (l : List ℕ) (rack : ℕ) → lookedAt f page l rack ≡ Passed → PassedLook f page l rack
+looked f page l rack tests =
     let one = both (unless (eqb page pageSize) Page) _ tests in
-    let five = both (tested n v l) _ (one .1) in
+    let five = both (tested f l) _ (one .1) in
     record {
       size = eqb-true page pageSize (held _ Page (one .0));
       passed = five .0;
-      inside = ltb-true rack n (held _ RequestRefusal (five .1));
+      inside = ltb-true rack (f .racks) (held _ RequestRefusal (five .1));
     }
 
 -- ---- a record whose tests have passed
@@ -78,41 +79,36 @@ all-three true true false e = let z : _≡_ {A = ℕ} 0 1 = cc in absurd (omega 
 all-three true false d e = let z : _≡_ {A = ℕ} 0 1 = cc in absurd (omega arith)
 all-three false b d e = let z : _≡_ {A = ℕ} 0 1 = cc in absurd (omega arith)
 
-module _ (n v : ℕ) (l : List ℕ) (passed : tested n v l ≡ Passed) where
-  pub passed-length : length l ≡ recordSize n
+module _ (f : Form) (l : List ℕ) (passed : tested f l ≡ Passed) where
+  pub passed-length : length l ≡ recordSize f
   unfolding tested
-  passed-length = right-length n l (all-three (rightSize n l) (rightVersion n v l) (rightState n l) passed .0)
+  passed-length = right-length f l (all-three (rightSize f l) (rightVersion f l) (rightState f l) passed .0)
 
-  pub passed-good : goodState (state n l) ≡ true
+  pub passed-good : goodState (state f l) ≡ true
   unfolding tested rightState
-  passed-good = all-three (rightSize n l) (rightVersion n v l) (rightState n l) passed .1
+  passed-good = all-three (rightSize f l) (rightVersion f l) (rightState f l) passed .1
 
 -- ---- what follows for an offer, and for a look
 
-module _ (n v page room : ℕ) (l request : List ℕ) (q : Request) (o : Offered n v page room l request q) where
-  pub offered-length : length l ≡ recordSize n
-  offered-length = passed-length n v l (o .passed)
+module _ (f : Form) (page room : ℕ) (l request : List ℕ) (q : Request) (o : PassedOffer f page room l request q) where
+  pub offered-length : length l ≡ recordSize f
+  offered-length = passed-length f l (o .passed)
 
-  pub offered-good : goodState (state n l) ≡ true
-  offered-good = passed-good n v l (o .passed)
+  pub offered-good : goodState (state f l) ≡ true
+  offered-good = passed-good f l (o .passed)
 
   pub offered-request : length request ≡ requestSize
-  offered-request = formed-form n request (read-formed n request q (o .read) .0) .size
+  offered-request = formed-form (f .racks) request (read-formed (f .racks) request q (o .read) .0) .size
 
-  pub offered-range : InRange n q
-  offered-range = in-range n request q (o .read)
+  pub offered-range : InRange (f .racks) q
+  offered-range = in-range (f .racks) request q (o .read)
 
-  pub offered-named : Named n q
+  pub offered-named : Named (f .racks) q
   offered-named = offered-range .named
 
-module _ (n v page : ℕ) (l : List ℕ) (rack : ℕ) (o : Looked n v page l rack) where
-  pub looked-length : length l ≡ recordSize n
-  looked-length = passed-length n v l (o .passed)
+module _ (f : Form) (page : ℕ) (l : List ℕ) (rack : ℕ) (o : PassedLook f page l rack) where
+  pub looked-length : length l ≡ recordSize f
+  looked-length = passed-length f l (o .passed)
 
-  pub looked-good : goodState (state n l) ≡ true
-  looked-good = passed-good n v l (o .passed)
-
--- ---- a form of record is short
-
-pub bound : (n : ℕ) (header : List ℕ) → Described n header → stateSize n ≤ 65535
-bound n header described = let short = described .short in omega arith
+  pub looked-good : goodState (state f l) ≡ true
+  looked-good = passed-good f l (o .passed)

@@ -1,5 +1,6 @@
--- What is written reads back as what was written, and writing what was read gives the same bytes: of pages and of records, over the
--- number of racks and the version.
+-- What is written reads back as what was written, and writing what was read gives the same bytes: of pages and of records, for
+-- every form.
+pub mod FormLaws
 pub mod Headers
 pub mod PageBytes
 pub mod RecordBytes

@@ -11,34 +11,35 @@ use Rattle.refusals.specs.declared.Refusal.the-variants.{Record, Version, State
 use Rattle.racks.specs.Layout.{rackSize, stateOf}
 use Rattle.racks.specs.Rule.{goodState}
 use Rattle.numbers.proofs.Parts.{length-part}
+use Rattle.records.specs.Form.{Form}
 use Rattle.records.specs.declared.Tested.the-variants.{Passed, Refused}
 use Rattle.records.specs.Record.{recordSize, stateSize, stateBytes, rightSize, rightVersion, rightState}
 use Rattle.records.specs.Tests.{tested}
 
 -- the tests' own values
-by-tests : (n v : ℕ) (l : List ℕ) (a b c : Bool) → rightSize n l ≡ a → rightVersion n v l ≡ b → rightState n l ≡ c
-    → tested n v l ≡ cond a (cond b (cond c Passed (Refused State)) (Refused Version)) (Refused Record)
+by-tests : (f : Form) (l : List ℕ) (a b c : Bool) → rightSize f l ≡ a → rightVersion f l ≡ b → rightState f l ≡ c
+    → tested f l ≡ cond a (cond b (cond c Passed (Refused State)) (Refused Version)) (Refused Record)
 unfolding tested
-by-tests n v l a b c p q r =
-    ap₂ (λ (x y : Bool). cond x (cond y (cond (rightState n l) Passed (Refused State)) (Refused Version)) (Refused Record)) p q
+by-tests f l a b c p q r =
+    ap₂ (λ (x y : Bool). cond x (cond y (cond (rightState f l) Passed (Refused State)) (Refused Version)) (Refused Record)) p q
     ∙ ap (λ (z : Bool). cond a (cond b (cond z Passed (Refused State)) (Refused Version)) (Refused Record)) r
 
-pub refused-3 : (n v : ℕ) (l : List ℕ) → rightSize n l ≡ false → Refused Record ≡ tested n v l
-refused-3 n v l p = sym (by-tests n v l false _ _ p refl refl)
+pub refused-3 : (f : Form) (l : List ℕ) → rightSize f l ≡ false → Refused Record ≡ tested f l
+refused-3 f l p = sym (by-tests f l false _ _ p refl refl)
 
-pub refused-4 : (n v : ℕ) (l : List ℕ) → rightSize n l ≡ true → rightVersion n v l ≡ false → Refused Version ≡ tested n v l
-refused-4 n v l p q = sym (by-tests n v l true false _ p q refl)
+pub refused-4 : (f : Form) (l : List ℕ) → rightSize f l ≡ true → rightVersion f l ≡ false → Refused Version ≡ tested f l
+refused-4 f l p q = sym (by-tests f l true false _ p q refl)
 
-pub refused-5 : (n v : ℕ) (l : List ℕ) → rightSize n l ≡ true → rightVersion n v l ≡ true → rightState n l ≡ false → Refused State ≡ tested n v l
-refused-5 n v l p q r = sym (by-tests n v l true true false p q r)
+pub refused-5 : (f : Form) (l : List ℕ) → rightSize f l ≡ true → rightVersion f l ≡ true → rightState f l ≡ false → Refused State ≡ tested f l
+refused-5 f l p q r = sym (by-tests f l true true false p q r)
 
-pub all-passed : (n v : ℕ) (l : List ℕ) → rightSize n l ≡ true → rightVersion n v l ≡ true → rightState n l ≡ true → Passed ≡ tested n v l
-all-passed n v l p q r = sym (by-tests n v l true true true p q r)
+pub all-passed : (f : Form) (l : List ℕ) → rightSize f l ≡ true → rightVersion f l ≡ true → rightState f l ≡ true → Passed ≡ tested f l
+all-passed f l p q r = sym (by-tests f l true true true p q r)
 
 -- the state rule, tested on the state's own bytes
-pub state-rule : (n : ℕ) (l s : List ℕ) → length l ≡ recordSize n → s ≡ stateBytes n l → goodState (stateOf (length s / rackSize) s) ≡ rightState n l
+pub state-rule : (f : Form) (l s : List ℕ) → length l ≡ recordSize f → s ≡ stateBytes f l → goodState (stateOf (length s / rackSize) s) ≡ rightState f l
 unfolding rightState
-state-rule n l s long is =
-    let wide : length (stateBytes n l) ≡ stateSize n = length-part 3 (stateSize n) l (omega arith) in
-    let count : length s / rackSize ≡ n = ap (λ (m : List ℕ). length m / rackSize) is ∙ ap (λ (m : ℕ). m / rackSize) wide ∙ mul-div-cancel n (lit< tt) in
+state-rule f l s long is =
+    let wide : length (stateBytes f l) ≡ stateSize f = length-part 3 (stateSize f) l (omega arith) in
+    let count : length s / rackSize ≡ f .racks = ap (λ (m : List ℕ). length m / rackSize) is ∙ ap (λ (m : ℕ). m / rackSize) wide ∙ mul-div-cancel (f .racks) (lit< tt) in
     ap₂ (λ (k : ℕ) (m : List ℕ). goodState (stateOf k m)) count is

@@ -4,15 +4,16 @@ use Prim.Native.Nat.{ℕ}
 use mathlib.Core.Bool.{cond}
 use mathlib.Core.List.{List}
 use Rattle.refusals.specs.declared.Refusal.the-variants.{Record, Version, State}
+use Rattle.records.specs.Form.{Form}
 use Rattle.records.specs.declared.Tested.{Tested}
 use Rattle.records.specs.declared.Tested.the-variants.{Passed, Refused}
 use Rattle.records.specs.Record.{rightSize, rightVersion, rightState}
 
 -- the first that applies is the answer
-unfoldable pub tested : ℕ → ℕ → List ℕ → Tested
-tested n v l =
-    cond (rightSize n l)
-    (cond (rightVersion n v l)
-    (cond (rightState n l) Passed (Refused State))
+unfoldable pub tested : Form → List ℕ → Tested
+tested f l =
+    cond (rightSize f l)
+    (cond (rightVersion f l)
+    (cond (rightState f l) Passed (Refused State))
     (Refused Version))
     (Refused Record)

@@ -1,15 +1,20 @@
-// The page and the record in lent bytes: their parts where they lie, and the tests 3, 4 and 5 of a record. The
-// number of racks and the header are parameters: a form of record is these two.
+// The page and the record in lent bytes: their parts where they lie, and the tests 3, 4 and 5 of a record. What reads or
+// writes a record is told its form.
 mod edition;
+mod forms;
 mod pages;
 mod parts;
 mod testing;
 
 pub use edition::first_state;
+pub use forms::header_of;
+pub use forms::racks_of;
+pub use forms::tag_of;
 pub use pages::page_key;
 pub use pages::page_summary;
 pub use parts::authenticator_part;
 pub use parts::record_size;
+pub use parts::state_end;
 pub use parts::state_part;
 pub use parts::summary_part;
 use refusals::Refusal;
@@ -23,6 +28,12 @@ pub const PAGE_SIZE: usize = 64;
 
 // How many bytes stand before a record's racks: its length and its version.
 pub const HEADER_SIZE: usize = 3;
+
+// The forms of a record, by their versions. A form is the racks, the length, the version and the byte before its state; `forms`
+// says them.
+pub enum Form {
+    Version1,
+}
 
 // What the tests of a record's form and state find.
 pub enum Tested {

@@ -1,2 +1,3 @@
--- What the answers of view and resume say.
+-- What the answers of view and resume say, and what view shows of a state.
 pub mod Told
+pub mod Seen

@@ -1,5 +1,4 @@
-// View and resume on lent buffers, for every form of record: the number of racks and the header are parameters. Nothing is
-// written.
+// View and resume on lent buffers, for every form of record, which the caller says. Nothing is written.
 mod resuming;
 mod viewing;
 

@@ -8,6 +8,7 @@ use racks::RACK_SIZE;
 use racks::percent;
 use racks::read_rack;
 use racks::total_stored;
+use records::Form;
 use records::Tested;
 use records::state_part;
 use refusals::Refusal;
@@ -17,29 +18,27 @@ ghost use Prim.Native.Nat.{_≤_, _<_};
 ghost use lib.ListN.{length};
 ghost use Rattle.racks.specs.Rule.{goodState};
 ghost use Rattle.rules.specs.Ready.{racksIn, stateIn};
-ghost use Rattle.records.specs.Record.{Described};
-ghost use Rattle.answers.specs.Judging.{afterCurrent, shown};
-ghost use Rattle.answers.specs.Answers.{viewedBy, viewed};
+ghost use Rattle.records.specs.Form.{formOf};
+ghost use Rattle.answers.specs.Answers.{viewed};
 ghost use Rattle.answers.specs.Edition.{design};
-ghost use Rattle.offers.specs.Offers.{designOf};
 ghost use Rattle.views.specs.Told.{toldView};
+ghost use Rattle.views.specs.Seen.{seenIn};
 
 // The figures of a rack and the total, of a record that is current.
-pub fn view(page: &[u8], record: &[u8], rack: usize, header: &[u8], racks: usize) -> ViewAnswer
-    requires { ⌜ Described racks (now header) ⌝ }
-    ensures { λ r. ⌜ toldView r ≡ viewed (designOf racks (now (header .entry))) (now (page .entry)) (now («record» .entry)) rack ⌝ }
+pub fn view(page: &[u8], record: &[u8], rack: usize, form: Form) -> ViewAnswer
+    ensures { λ r. ⌜ toldView r ≡ viewed (design (formOf form)) (now (page .entry)) (now («record» .entry)) rack ⌝ }
 {
-    match test_look(page.len(), record, rack, header, racks) {
+    match test_look(page.len(), record, rack, form) {
         Tested::Refused(r) => ViewAnswer::Refused(r),
         Tested::Passed => {
             let key = prepared(page);
-            if !valid(&key.inner, &key.outer, record, racks) {
+            if !valid(&key.inner, &key.outer, record, form) {
                 return ViewAnswer::Refused(Refusal::Authenticator);
             }
-            if !current(page, record, racks) {
+            if !current(page, record, form) {
                 return ViewAnswer::Refused(Refusal::Current);
             }
-            figures(state_part(record, racks), rack)
+            figures(state_part(record, form), rack)
         }
     }
 }
@@ -49,7 +48,7 @@ fn figures(state: &[u8], rack: usize) -> ViewAnswer
     requires { ⌜ length (now state) ≤ 65535 ⌝ }
     requires { ⌜ goodState (stateIn (now state)) ≡ true ⌝ }
     requires { ⌜ rack < racksIn (now state) ⌝ }
-    ensures { λ r. ⌜ toldView r ≡ viewedBy (design (racksIn (now (state .entry))) 0) rack (afterCurrent (shown (design (racksIn (now (state .entry))) 0) (now (state .entry)) rack)) ⌝ }
+    ensures { λ r. ⌜ toldView r ≡ seenIn (stateIn (now (state .entry))) rack ⌝ }
 {
     let total = total_stored(state);
     if 0xFFFF_FFFF < total {

@@ -1,14 +1,10 @@
 -- Each case hands back its own buffer. Assumes nothing.
 use mathlib.Core.Path.{refl}
 use Rattle.views.specs.declared.Which.the-variants.{Neither, Ram, Disk}
-use Rattle.records.proofs.ThisEdition.{described}
 use Rattle.keeper.proofs.Faces.{handed}
 use borrow.Author.Needs.{needs}
 use Rattle.keeper.proofs.resume.Statement.{statement}
 use Rattle.keeper.proofs.resume.Tie as tie
-
-choose-requires : tie.Need-choose-requires
-choose-requires c κs = described
 
 returns : tie.Need-returns
 returns c = handed _ Ram _ _ _ _ (c .before .before .choose .ensures) (c .enum-told .given .1) refl
@@ -23,8 +19,7 @@ pub resume-spec : {M : Type 1} → statement M
 resume-spec =
     tie.close
     (tie.spec
-    (λ c. search needs)
-    choose-requires
+    (λ c κs. search needs)
     (λ c. search needs)
     (λ c. search needs)
     (λ c. search needs)

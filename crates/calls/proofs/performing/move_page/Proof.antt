@@ -3,6 +3,7 @@ use mathlib.Core.Path.{sym, ap, _∙_}
 use lib.ListN.{length}
 use lib.Seq.{length-take-le}
 use native.Mathlib.Omega.{arith}
+use Rattle.records.specs.Form.{formOf}
 use Rattle.bindings.proofs.Seals.{length-summary, front-summary}
 use Rattle.calls.proofs.Writing.{laid-as}
 use borrow.Author.Needs.{needs}
@@ -19,14 +20,14 @@ copy-requires : tie.Need-copy-requires
 copy-requires c κs =
     let m = c .before .before .before in
     let o = m .before .before .before in
-    let is = c .summary-part .ensures ∙ front-summary (o .args .racks) (o .args .answer .now) (o .pre .1 .0) _ (m .record-size .ensures) in
-    omega (arith, ap length is, length-summary (o .args .racks) (o .args .answer .now) (o .pre .1 .0))
+    let is = c .summary-part .ensures ∙ front-summary (formOf (o .args .form)) (o .args .answer .now) (o .pre .1) _ (m .record-size .ensures) in
+    omega (arith, ap length is, length-summary (formOf (o .args .form)) (o .args .answer .now) (o .pre .1))
 
 returns : tie.Need-returns
 returns c =
     let m = c .before .before .before .before .before .before in
     let o = m .before .before .before in
-    let is = c .before .before .before .summary-part .ensures ∙ front-summary (o .args .racks) (o .args .answer .now) (o .pre .1 .0) _ (m .record-size .ensures) in
+    let is = c .before .before .before .summary-part .ensures ∙ front-summary (formOf (o .args .form)) (o .args .answer .now) (o .pre .1) _ (m .record-size .ensures) in
     laid-as _ _ (o .args .page .now) _ (c .before .before .copy .ensures) is
 
 pub move-page-spec : {M : Type 1} → statement M

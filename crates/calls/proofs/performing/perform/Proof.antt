@@ -1,8 +1,8 @@
 -- `perform` meets its contract: each test in its place, and past them all what was written. Assumes nothing.
 use mathlib.Core.Path.{refl, sym, _∙_}
 use native.Mathlib.Omega.{arith}
-use lib.ListN.{getD}
-use Rattle.offers.proofs.Passing.{offered-length, offered-request, offered-range, offered-named, bound}
+use Rattle.records.specs.Form.{formOf}
+use Rattle.offers.proofs.Passing.{offered-length, offered-request, offered-range, offered-named}
 use Rattle.calls.proofs.CarryingOut.{ready}
 use Rattle.calls.proofs.Answering.{performs, early, asked, forged, stale, barred, done}
 use borrow.Author.Needs.{needs}
@@ -13,8 +13,8 @@ prepared-requires : tie.Need-prepared-requires
 prepared-requires c κs =
     let f = c .before .before in
     let t = f .before .before in
-    let s = t .before .before .before .before .before .before .args in
-    let call = performs (s .racks) (getD (s .header .now) 2 0) (s .page .now) (s .«record» .now) (s .request .now) (s .answer .now) in
+    let s = t .before .before .before .before .before .args in
+    let call = performs (formOf (s .form)) (s .page .now) (s .«record» .now) (s .request .now) (s .answer .now) in
     let o = asked call (t .test-offer .ensures) (f .q .given .1) in
     o .size
 
@@ -22,29 +22,29 @@ valid-requires : tie.Need-valid-requires
 valid-requires c κs =
     let f = c .before .before .before .before .before .before in
     let t = f .before .before in
-    let e = t .before .before .before .before .before .before in
+    let e = t .before .before .before .before .before in
     let s = e .args in
-    let call = performs (s .racks) (getD (s .header .now) 2 0) (s .page .now) (s .«record» .now) (s .request .now) (s .answer .now) in
+    let call = performs (formOf (s .form)) (s .page .now) (s .«record» .now) (s .request .now) (s .answer .now) in
     let o = asked call (t .test-offer .ensures) (f .q .given .1) in
-    (offered-length _ _ _ _ _ _ _ o, bound _ _ (e .pre))
+    offered-length _ _ _ _ _ _ o
 
 returns : tie.Need-returns
 returns c =
     let v = c .before in
     let f = v .before .before .before .before .before .before .before in
     let t = f .before .before in
-    let s = t .before .before .before .before .before .before .args in
-    let call = performs (s .racks) (getD (s .header .now) 2 0) (s .page .now) (s .«record» .now) (s .request .now) (s .answer .now) in
+    let s = t .before .before .before .before .before .args in
+    let call = performs (formOf (s .form)) (s .page .now) (s .«record» .now) (s .request .now) (s .answer .now) in
     forged call (t .test-offer .ensures) (f .q .given .1) (v .before .before .before .before .prepared .ensures) (v .valid .ensures) (c .if1 .taken)
 
 current-requires : tie.Need-current-requires
 current-requires c κs =
     let f = c .before .before .before .before .before .before .before .before .before in
     let t = f .before .before in
-    let s = t .before .before .before .before .before .before .args in
-    let call = performs (s .racks) (getD (s .header .now) 2 0) (s .page .now) (s .«record» .now) (s .request .now) (s .answer .now) in
+    let s = t .before .before .before .before .before .args in
+    let call = performs (formOf (s .form)) (s .page .now) (s .«record» .now) (s .request .now) (s .answer .now) in
     let o = asked call (t .test-offer .ensures) (f .q .given .1) in
-    (o .size, offered-length _ _ _ _ _ _ _ o)
+    (o .size, offered-length _ _ _ _ _ _ o)
 
 returns-2 : tie.Need-returns-2
 returns-2 c =
@@ -52,36 +52,36 @@ returns-2 c =
     let v = i .before in
     let f = v .before .before .before .before .before .before .before in
     let t = f .before .before in
-    let s = t .before .before .before .before .before .before .args in
-    let call = performs (s .racks) (getD (s .header .now) 2 0) (s .page .now) (s .«record» .now) (s .request .now) (s .answer .now) in
+    let s = t .before .before .before .before .before .args in
+    let call = performs (formOf (s .form)) (s .page .now) (s .«record» .now) (s .request .now) (s .answer .now) in
     stale call (t .test-offer .ensures) (f .q .given .1) (v .before .before .before .before .prepared .ensures) (v .valid .ensures) (i .if1 .left) (c .before .current .ensures) (c .if2 .taken)
 
 judge-record-requires : tie.Need-judge-record-requires
 judge-record-requires c κs =
     let f = c .before .before .before .before .before .before .before .before .before .before .before in
     let t = f .before .before in
-    let s = t .before .before .before .before .before .before .args in
-    let call = performs (s .racks) (getD (s .header .now) 2 0) (s .page .now) (s .«record» .now) (s .request .now) (s .answer .now) in
+    let s = t .before .before .before .before .before .args in
+    let call = performs (formOf (s .form)) (s .page .now) (s .«record» .now) (s .request .now) (s .answer .now) in
     let o = asked call (t .test-offer .ensures) (f .q .given .1) in
-    (offered-length _ _ _ _ _ _ _ o, offered-named _ _ _ _ _ _ _ o)
+    (offered-length _ _ _ _ _ _ o, offered-named _ _ _ _ _ _ o)
 
 write-performed-requires : tie.Need-write-performed-requires
 write-performed-requires c κs =
     let j = c .before .before .before .before .before .before .before in
     let f = j .before .before .before .before .before .before .before .before .before .before .before .before in
     let t = f .before .before in
-    let e = t .before .before .before .before .before .before in
+    let e = t .before .before .before .before .before in
     let s = e .args in
-    let call = performs (s .racks) (getD (s .header .now) 2 0) (s .page .now) (s .«record» .now) (s .request .now) (s .answer .now) in
+    let call = performs (formOf (s .form)) (s .page .now) (s .«record» .now) (s .request .now) (s .answer .now) in
     let o = asked call (t .test-offer .ensures) (f .q .given .1) in
-    let long = offered-length _ _ _ _ _ _ _ o in
-    (o .size, (offered-request _ _ _ _ _ _ _ o, (e .pre, (o .answer, (long, ready (s .racks) (s .«record» .now) _ (omega (arith, long)) (offered-range _ _ _ _ _ _ _ o) (sym (j .judge-record .ensures) ∙ c .before .before .before .before .before .enum-told .given .1))))))
+    let long = offered-length _ _ _ _ _ _ o in
+    (o .size, (offered-request _ _ _ _ _ _ o, (o .answer, (long, ready (formOf (s .form)) (s .«record» .now) _ (omega (arith, long)) (offered-range _ _ _ _ _ _ o) (sym (j .judge-record .ensures) ∙ c .before .before .before .before .before .enum-told .given .1)))))
 
 returns-3 : tie.Need-returns-3
 returns-3 c =
     let t = c .before .before .before in
-    let s = t .before .before .before .before .before .before .args in
-    early (performs (s .racks) (getD (s .header .now) 2 0) (s .page .now) (s .«record» .now) (s .request .now) (s .answer .now)) (t .test-offer .ensures) _ (c .before .r .given .1)
+    let s = t .before .before .before .before .before .args in
+    early (performs (formOf (s .form)) (s .page .now) (s .«record» .now) (s .request .now) (s .answer .now)) (t .test-offer .ensures) _ (c .before .r .given .1)
 
 returns-4 : tie.Need-returns-4
 returns-4 c =
@@ -92,8 +92,8 @@ returns-4 c =
     let v = i .before in
     let f = v .before .before .before .before .before .before .before in
     let t = f .before .before in
-    let s = t .before .before .before .before .before .before .args in
-    let call = performs (s .racks) (getD (s .header .now) 2 0) (s .page .now) (s .«record» .now) (s .request .now) (s .answer .now) in
+    let s = t .before .before .before .before .before .args in
+    let call = performs (formOf (s .form)) (s .page .now) (s .«record» .now) (s .request .now) (s .answer .now) in
     barred call (t .test-offer .ensures) (f .q .given .1) (v .before .before .before .before .prepared .ensures) (v .valid .ensures) (i .if1 .left) (g .current .ensures) (h .if2 .left) (j .judge-record .ensures) _ (c .before .r2 .given .1)
 
 returns-5 : tie.Need-returns-5
@@ -105,8 +105,8 @@ returns-5 c =
     let v = i .before in
     let f = v .before .before .before .before .before .before .before in
     let t = f .before .before in
-    let s = t .before .before .before .before .before .before .args in
-    let call = performs (s .racks) (getD (s .header .now) 2 0) (s .page .now) (s .«record» .now) (s .request .now) (s .answer .now) in
+    let s = t .before .before .before .before .before .args in
+    let call = performs (formOf (s .form)) (s .page .now) (s .«record» .now) (s .request .now) (s .answer .now) in
     let w = c .before .before .before .before in
     done call (t .test-offer .ensures) (f .q .given .1) (v .before .before .before .before .prepared .ensures) (v .valid .ensures) (i .if1 .left) (g .current .ensures) (h .if2 .left) (j .judge-record .ensures) (c .before .before .before .before .before .before .before .before .before .before .enum-told .given .1) (w .write-performed .ensures .0) refl (w .write-performed .ensures .1 .1) (w .write-performed .ensures .1 .0)
 

@@ -5,6 +5,7 @@ use Prim.Native.Nat.{ℕ}
 use lib.ListN.{length}
 use native.Mathlib.Omega.{arith}
 use Rattle.numbers.specs.Comparing.{same}
+use Rattle.records.specs.Form.{formOf}
 use Rattle.bindings.specs.Hashed.{nextSummary}
 use Rattle.bindings.proofs.Seals.{length-summary}
 use borrow.Author.Needs.{needs}
@@ -14,7 +15,7 @@ use Rattle.calls.proofs.repeating.leads_to.Tie as tie
 next-summary-requires : tie.Need-next-summary-requires
 next-summary-requires c κs =
     let o = c .before .before .before .before in
-    omega (arith, ap length (c .summary-part .ensures), length-summary (o .args .racks) (o .args .«record» .now) (omega arith))
+    omega (arith, ap length (c .summary-part .ensures), length-summary (formOf (o .args .form)) (o .args .«record» .now) (omega arith))
 
 returns : tie.Need-returns
 returns c =

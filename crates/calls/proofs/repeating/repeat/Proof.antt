@@ -1,8 +1,8 @@
 -- `repeat` meets its contract: as perform, and past the tests the page's summary is the next. Assumes nothing.
 use mathlib.Core.Path.{refl, sym, _∙_}
 use native.Mathlib.Omega.{arith}
-use lib.ListN.{getD}
-use Rattle.offers.proofs.Passing.{offered-length, offered-request, offered-range, offered-named, bound}
+use Rattle.records.specs.Form.{formOf}
+use Rattle.offers.proofs.Passing.{offered-length, offered-request, offered-range, offered-named}
 use Rattle.calls.proofs.CarryingOut.{ready}
 use Rattle.calls.proofs.Answering.{repeats, early, asked, forged, stale, barred, done, follows}
 use borrow.Author.Needs.{needs}
@@ -13,8 +13,8 @@ prepared-requires : tie.Need-prepared-requires
 prepared-requires c κs =
     let f = c .before in
     let t = f .before .before in
-    let s = t .before .before .before .before .before .before .args in
-    let call = repeats (s .racks) (getD (s .header .now) 2 0) (s .page .now) (s .«record» .now) (s .request .now) (s .answer .now) in
+    let s = t .before .before .before .before .before .args in
+    let call = repeats (formOf (s .form)) (s .page .now) (s .«record» .now) (s .request .now) (s .answer .now) in
     let o = asked call (t .test-offer .ensures) (f .q .given .1) in
     o .size
 
@@ -22,29 +22,29 @@ valid-requires : tie.Need-valid-requires
 valid-requires c κs =
     let f = c .before .before .before .before .before in
     let t = f .before .before in
-    let e = t .before .before .before .before .before .before in
+    let e = t .before .before .before .before .before in
     let s = e .args in
-    let call = repeats (s .racks) (getD (s .header .now) 2 0) (s .page .now) (s .«record» .now) (s .request .now) (s .answer .now) in
+    let call = repeats (formOf (s .form)) (s .page .now) (s .«record» .now) (s .request .now) (s .answer .now) in
     let o = asked call (t .test-offer .ensures) (f .q .given .1) in
-    (offered-length _ _ _ _ _ _ _ o, bound _ _ (e .pre))
+    offered-length _ _ _ _ _ _ o
 
 returns : tie.Need-returns
 returns c =
     let v = c .before in
     let f = v .before .before .before .before .before .before in
     let t = f .before .before in
-    let s = t .before .before .before .before .before .before .args in
-    let call = repeats (s .racks) (getD (s .header .now) 2 0) (s .page .now) (s .«record» .now) (s .request .now) (s .answer .now) in
+    let s = t .before .before .before .before .before .args in
+    let call = repeats (formOf (s .form)) (s .page .now) (s .«record» .now) (s .request .now) (s .answer .now) in
     forged call (t .test-offer .ensures) (f .q .given .1) (v .before .before .before .before .prepared .ensures) (v .valid .ensures) (c .if1 .taken)
 
 leads-to-requires : tie.Need-leads-to-requires
 leads-to-requires c κs =
     let f = c .before .before .before .before .before .before .before in
     let t = f .before .before in
-    let s = t .before .before .before .before .before .before .args in
-    let call = repeats (s .racks) (getD (s .header .now) 2 0) (s .page .now) (s .«record» .now) (s .request .now) (s .answer .now) in
+    let s = t .before .before .before .before .before .args in
+    let call = repeats (formOf (s .form)) (s .page .now) (s .«record» .now) (s .request .now) (s .answer .now) in
     let o = asked call (t .test-offer .ensures) (f .q .given .1) in
-    (o .size, (offered-length _ _ _ _ _ _ _ o, offered-request _ _ _ _ _ _ _ o))
+    (o .size, (offered-length _ _ _ _ _ _ o, offered-request _ _ _ _ _ _ o))
 
 returns-2 : tie.Need-returns-2
 returns-2 c =
@@ -52,36 +52,36 @@ returns-2 c =
     let v = i .before in
     let f = v .before .before .before .before .before .before in
     let t = f .before .before in
-    let s = t .before .before .before .before .before .before .args in
-    let call = repeats (s .racks) (getD (s .header .now) 2 0) (s .page .now) (s .«record» .now) (s .request .now) (s .answer .now) in
+    let s = t .before .before .before .before .before .args in
+    let call = repeats (formOf (s .form)) (s .page .now) (s .«record» .now) (s .request .now) (s .answer .now) in
     stale call (t .test-offer .ensures) (f .q .given .1) (v .before .before .before .before .prepared .ensures) (v .valid .ensures) (i .if1 .left) (c .before .leads-to .ensures) (c .if2 .taken)
 
 judge-record-requires : tie.Need-judge-record-requires
 judge-record-requires c κs =
     let f = c .before .before .before .before .before .before .before .before .before in
     let t = f .before .before in
-    let s = t .before .before .before .before .before .before .args in
-    let call = repeats (s .racks) (getD (s .header .now) 2 0) (s .page .now) (s .«record» .now) (s .request .now) (s .answer .now) in
+    let s = t .before .before .before .before .before .args in
+    let call = repeats (formOf (s .form)) (s .page .now) (s .«record» .now) (s .request .now) (s .answer .now) in
     let o = asked call (t .test-offer .ensures) (f .q .given .1) in
-    (offered-length _ _ _ _ _ _ _ o, offered-named _ _ _ _ _ _ _ o)
+    (offered-length _ _ _ _ _ _ o, offered-named _ _ _ _ _ _ o)
 
 write-repeated-requires : tie.Need-write-repeated-requires
 write-repeated-requires c κs =
     let j = c .before .before .before .before .before .before in
     let f = j .before .before .before .before .before .before .before .before .before .before in
     let t = f .before .before in
-    let e = t .before .before .before .before .before .before in
+    let e = t .before .before .before .before .before in
     let s = e .args in
-    let call = repeats (s .racks) (getD (s .header .now) 2 0) (s .page .now) (s .«record» .now) (s .request .now) (s .answer .now) in
+    let call = repeats (formOf (s .form)) (s .page .now) (s .«record» .now) (s .request .now) (s .answer .now) in
     let o = asked call (t .test-offer .ensures) (f .q .given .1) in
-    let long = offered-length _ _ _ _ _ _ _ o in
-    (o .size, (e .pre, (o .answer, (long, ready (s .racks) (s .«record» .now) _ (omega (arith, long)) (offered-range _ _ _ _ _ _ _ o) (sym (j .judge-record .ensures) ∙ c .before .before .before .before .enum-told .given .1)))))
+    let long = offered-length _ _ _ _ _ _ o in
+    (o .size, (o .answer, (long, ready (formOf (s .form)) (s .«record» .now) _ (omega (arith, long)) (offered-range _ _ _ _ _ _ o) (sym (j .judge-record .ensures) ∙ c .before .before .before .before .enum-told .given .1))))
 
 returns-3 : tie.Need-returns-3
 returns-3 c =
     let t = c .before .before .before in
-    let s = t .before .before .before .before .before .before .args in
-    early (repeats (s .racks) (getD (s .header .now) 2 0) (s .page .now) (s .«record» .now) (s .request .now) (s .answer .now)) (t .test-offer .ensures) _ (c .before .r .given .1)
+    let s = t .before .before .before .before .before .args in
+    early (repeats (formOf (s .form)) (s .page .now) (s .«record» .now) (s .request .now) (s .answer .now)) (t .test-offer .ensures) _ (c .before .r .given .1)
 
 returns-4 : tie.Need-returns-4
 returns-4 c =
@@ -92,8 +92,8 @@ returns-4 c =
     let v = i .before in
     let f = v .before .before .before .before .before .before in
     let t = f .before .before in
-    let s = t .before .before .before .before .before .before .args in
-    let call = repeats (s .racks) (getD (s .header .now) 2 0) (s .page .now) (s .«record» .now) (s .request .now) (s .answer .now) in
+    let s = t .before .before .before .before .before .args in
+    let call = repeats (formOf (s .form)) (s .page .now) (s .«record» .now) (s .request .now) (s .answer .now) in
     barred call (t .test-offer .ensures) (f .q .given .1) (v .before .before .before .before .prepared .ensures) (v .valid .ensures) (i .if1 .left) (g .leads-to .ensures) (h .if2 .left) (j .judge-record .ensures) _ (c .before .r2 .given .1)
 
 returns-5 : tie.Need-returns-5
@@ -105,8 +105,8 @@ returns-5 c =
     let v = i .before in
     let f = v .before .before .before .before .before .before in
     let t = f .before .before in
-    let s = t .before .before .before .before .before .before .args in
-    let call = repeats (s .racks) (getD (s .header .now) 2 0) (s .page .now) (s .«record» .now) (s .request .now) (s .answer .now) in
+    let s = t .before .before .before .before .before .args in
+    let call = repeats (formOf (s .form)) (s .page .now) (s .«record» .now) (s .request .now) (s .answer .now) in
     let w = c .before .before in
     done call (t .test-offer .ensures) (f .q .given .1) (v .before .before .before .before .prepared .ensures) (v .valid .ensures) (i .if1 .left) (g .leads-to .ensures) (h .if2 .left) (j .judge-record .ensures) (c .before .before .before .before .before .before .before .enum-told .given .1) refl (follows (g .leads-to .ensures) (h .if2 .left)) (w .write-repeated .ensures .1) (w .write-repeated .ensures .0)
 

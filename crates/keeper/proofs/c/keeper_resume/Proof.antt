@@ -1,14 +1,10 @@
 -- The number of resume's case. Assumes nothing.
 use mathlib.Core.Path.{refl}
 use Rattle.views.specs.declared.Which.the-variants.{Neither, Ram, Disk}
-use Rattle.records.proofs.ThisEdition.{described}
 use Rattle.keeper.proofs.Faces.{resumed-to-c}
 use borrow.Author.Needs.{needs}
 use Rattle.keeper.proofs.c.keeper_resume.Statement.{statement}
 use Rattle.keeper.proofs.c.keeper_resume.Tie as tie
-
-choose-requires : tie.Need-choose-requires
-choose-requires c κs = described
 
 returns : tie.Need-returns
 returns c = resumed-to-c _ Neither 0 _ (c .before .before .choose .ensures) (c .enum-told .given .1) refl
@@ -23,8 +19,7 @@ pub keeper-resume-spec : {M : Type 1} → statement M
 keeper-resume-spec =
     tie.close
     (tie.spec
-    (λ c. search needs)
-    choose-requires
+    (λ c κs. search needs)
     (λ c. search needs)
     (λ c. search needs)
     (λ c. search needs)

@@ -1,6 +1,8 @@
 -- Each test in its place, and past them all the figures of the state. Assumes nothing.
-use lib.ListN.{getD}
-use Rattle.views.proofs.Shown.{view-early, view-looked, view-forged, view-stale, view-current, looked-ready, state-ready, state-viewed}
+use Rattle.records.specs.Form.{formOf}
+use Rattle.views.proofs.Shown.{view-early, view-looked, view-forged, view-stale, view-current, state-ready, state-shown}
+use Rattle.records.proofs.FormLaws.{state-fits}
+use Rattle.offers.proofs.Passing.{looked-length}
 use borrow.Author.Needs.{needs}
 use Rattle.views.proofs.viewing.view.Statement.{statement}
 use Rattle.views.proofs.viewing.view.Tie as tie
@@ -9,35 +11,33 @@ prepared-requires : tie.Need-prepared-requires
 prepared-requires c κs =
     let f = c in
     let t = f .before .before in
-    let s = t .before .before .before .before .args in
-    let o = view-looked (s .racks) (getD (s .header .now) 2 0) (s .page .now) (s .«record» .now) (s .rack) (t .test-look .ensures) (f .enum-told .given .1) in
+    let s = t .before .before .before .args in
+    let o = view-looked (formOf (s .form)) (s .page .now) (s .«record» .now) (s .rack) (t .test-look .ensures) (f .enum-told .given .1) in
     o .size
 
 valid-requires : tie.Need-valid-requires
 valid-requires c κs =
     let f = c .before .before .before .before in
     let t = f .before .before in
-    let e = t .before .before .before .before in
-    let s = e .args in
-    let o = view-looked (s .racks) (getD (s .header .now) 2 0) (s .page .now) (s .«record» .now) (s .rack) (t .test-look .ensures) (f .enum-told .given .1) in
-    looked-ready _ _ _ _ _ _ (e .pre) o
+    let s = t .before .before .before .args in
+    let o = view-looked (formOf (s .form)) (s .page .now) (s .«record» .now) (s .rack) (t .test-look .ensures) (f .enum-told .given .1) in
+    looked-length _ _ _ _ o
 
 returns : tie.Need-returns
 returns c =
     let v = c .before in
     let f = v .before .before .before .before .before in
     let t = f .before .before in
-    let s = t .before .before .before .before .args in
-    view-forged (s .racks) (getD (s .header .now) 2 0) (s .page .now) (s .«record» .now) (s .rack) (t .test-look .ensures) (f .enum-told .given .1) (v .before .before .before .before .prepared .ensures) (v .valid .ensures) (c .if1 .taken)
+    let s = t .before .before .before .args in
+    view-forged (formOf (s .form)) (s .page .now) (s .«record» .now) (s .rack) (t .test-look .ensures) (f .enum-told .given .1) (v .before .before .before .before .prepared .ensures) (v .valid .ensures) (c .if1 .taken)
 
 current-requires : tie.Need-current-requires
 current-requires c κs =
     let f = c .before .before .before .before .before .before in
     let t = f .before .before in
-    let e = t .before .before .before .before in
-    let s = e .args in
-    let o = view-looked (s .racks) (getD (s .header .now) 2 0) (s .page .now) (s .«record» .now) (s .rack) (t .test-look .ensures) (f .enum-told .given .1) in
-    (o .size, looked-ready _ _ _ _ _ _ (e .pre) o .0)
+    let s = t .before .before .before .args in
+    let o = view-looked (formOf (s .form)) (s .page .now) (s .«record» .now) (s .rack) (t .test-look .ensures) (f .enum-told .given .1) in
+    (o .size, looked-length _ _ _ _ o)
 
 returns-2 : tie.Need-returns-2
 returns-2 c =
@@ -45,32 +45,30 @@ returns-2 c =
     let v = i .before in
     let f = v .before .before .before .before .before in
     let t = f .before .before in
-    let s = t .before .before .before .before .args in
-    view-stale (s .racks) (getD (s .header .now) 2 0) (s .page .now) (s .«record» .now) (s .rack) (t .test-look .ensures) (f .enum-told .given .1) (v .before .before .before .before .prepared .ensures) (v .valid .ensures) (i .if1 .left) (c .before .current .ensures) (c .if2 .taken)
+    let s = t .before .before .before .args in
+    view-stale (formOf (s .form)) (s .page .now) (s .«record» .now) (s .rack) (t .test-look .ensures) (f .enum-told .given .1) (v .before .before .before .before .prepared .ensures) (v .valid .ensures) (i .if1 .left) (c .before .current .ensures) (c .if2 .taken)
 
 state-part-requires : tie.Need-state-part-requires
 state-part-requires c κs =
     let f = c .before .before .before .before .before .before .before .before in
     let t = f .before .before in
-    let e = t .before .before .before .before in
-    let s = e .args in
-    let o = view-looked (s .racks) (getD (s .header .now) 2 0) (s .page .now) (s .«record» .now) (s .rack) (t .test-look .ensures) (f .enum-told .given .1) in
-    looked-ready _ _ _ _ _ _ (e .pre) o .0
+    let s = t .before .before .before .args in
+    let o = view-looked (formOf (s .form)) (s .page .now) (s .«record» .now) (s .rack) (t .test-look .ensures) (f .enum-told .given .1) in
+    looked-length _ _ _ _ o
 
 figures-requires : tie.Need-figures-requires
 figures-requires c κs =
     let f = c .before .before .before .before .before .before .before .before .before in
     let t = f .before .before in
-    let e = t .before .before .before .before in
-    let s = e .args in
-    let o = view-looked (s .racks) (getD (s .header .now) 2 0) (s .page .now) (s .«record» .now) (s .rack) (t .test-look .ensures) (f .enum-told .given .1) in
-    state-ready _ _ _ _ _ _ _ (e .pre) o (c .state-part .ensures)
+    let s = t .before .before .before .args in
+    let o = view-looked (formOf (s .form)) (s .page .now) (s .«record» .now) (s .rack) (t .test-look .ensures) (f .enum-told .given .1) in
+    state-ready _ _ _ _ _ o (c .state-part .ensures) (state-fits (s .form))
 
 returns-3 : tie.Need-returns-3
 returns-3 c =
     let t = c .before .before .before in
-    let s = t .before .before .before .before .args in
-    view-early (s .racks) (getD (s .header .now) 2 0) (s .page .now) (s .«record» .now) (s .rack) (t .test-look .ensures) _ (c .before .r .given .1)
+    let s = t .before .before .before .args in
+    view-early (formOf (s .form)) (s .page .now) (s .«record» .now) (s .rack) (t .test-look .ensures) _ (c .before .r .given .1)
 
 returns-4 : tie.Need-returns-4
 returns-4 c =
@@ -79,10 +77,9 @@ returns-4 c =
     let v = i .before in
     let f = v .before .before .before .before .before in
     let t = f .before .before in
-    let e = t .before .before .before .before in
-    let s = e .args in
-    let o = view-looked (s .racks) (getD (s .header .now) 2 0) (s .page .now) (s .«record» .now) (s .rack) (t .test-look .ensures) (f .enum-told .given .1) in
-    view-current (s .racks) (getD (s .header .now) 2 0) (s .page .now) (s .«record» .now) (s .rack) (t .test-look .ensures) (f .enum-told .given .1) (v .before .before .before .before .prepared .ensures) (v .valid .ensures) (i .if1 .left) (h .before .current .ensures) (h .if2 .left) (state-viewed _ _ _ _ _ _ _ (e .pre) o (c .before .state-part .ensures) _ (c .figures .ensures))
+    let s = t .before .before .before .args in
+    let o = view-looked (formOf (s .form)) (s .page .now) (s .«record» .now) (s .rack) (t .test-look .ensures) (f .enum-told .given .1) in
+    view-current (formOf (s .form)) (s .page .now) (s .«record» .now) (s .rack) (t .test-look .ensures) (f .enum-told .given .1) (v .before .before .before .before .prepared .ensures) (v .valid .ensures) (i .if1 .left) (h .before .current .ensures) (h .if2 .left) (state-shown _ _ _ _ _ o (c .before .state-part .ensures) _ (c .figures .ensures))
 
 pub view-spec : {M : Type 1} → statement M
 view-spec =

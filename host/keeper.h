@@ -129,7 +129,7 @@ extern "C" {
 #endif
 
 /* The version of this header and of the archive that it belongs to: 10,000 for 1.0.0, 10,203 for 1.2.3. */
-#define KEEPER_VERSION 10101
+#define KEEPER_VERSION 10102
 
 /* Where a compiler can, it warns of a result that is ignored: a refusal would go unseen. */
 #if defined(__GNUC__)

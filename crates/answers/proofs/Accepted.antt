@@ -14,7 +14,7 @@ use Rattle.records.specs.declared.Tested.{Tested}
 use Rattle.records.specs.declared.Tested.the-variants.{Passed, Refused}
 use Rattle.answers.specs.Design.{Design, Served}
 use Rattle.answers.specs.Hashing.{nextSummary, bindingIn, valid}
-use Rattle.answers.specs.Judging.{Verdict, judged, offered, performVerdict, repeatVerdict}
+use Rattle.answers.specs.Judging.{Verdict, judged, byService, offered, performVerdict, repeatVerdict}
 use Rattle.answers.specs.Answers.{openTests, openedBy, opened, answeredBy, performed, repeated}
 use Rattle.answers.specs.Accepting.{Passing, PerformPassing, RepeatPassing, pageNext, AcceptedJustWhere}
 use Rattle.answers.proofs.Tests.{offer, offered-passes}
@@ -44,7 +44,7 @@ record Found (t : Tested) (isValid isCurrent : Bool) (s : Served) (state : List 
   currency : isCurrent ≡ true
   carries : s ≡ Served.carried state
 
-found : (t : Tested) (v c : Bool) (s : Served) (state : List ℕ) → judged t v c s ≡ Verdict.good state → Found t v c s state
+found : (t : Tested) (v c : Bool) (s : Served) (state : List ℕ) → judged t v c (byService s) ≡ Verdict.good state → Found t v c s state
 found (Refused r) v c s state e = let z : _≡_ {A = ℕ} 0 1 = cc in absurd (omega arith)
 found Passed false c s state e = let z : _≡_ {A = ℕ} 0 1 = cc in absurd (omega arith)
 found Passed true false s state e = let z : _≡_ {A = ℕ} 0 1 = cc in absurd (omega arith)
@@ -82,7 +82,7 @@ module _ (D : Design) (page l request answer : List ℕ) where
       }
 
   judges-good : (summary state : List ℕ) → Passing D page l request answer summary state
-      → judged (offered D page l request answer) (valid D page l) (same summary (D .pageSummary page)) (D .served (D .stateBytes l) request) ≡ Verdict.good state
+      → judged (offered D page l request answer) (valid D page l) (same summary (D .pageSummary page)) (byService (D .served (D .stateBytes l) request)) ≡ Verdict.good state
   judges-good summary state p =
       let passed = offered-passes D page l request answer (record { right = p .right; room = p .room; tests = p .tests; formed = p .formed }) in
       let validity = same-iff (D .authenticator l) (D .mac page (bindingIn D l)) .1 (p .authentic) in

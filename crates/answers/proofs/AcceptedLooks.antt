@@ -14,8 +14,7 @@ use Rattle.racks.proofs.FirstState.{total-firstState}
 use Rattle.records.specs.declared.Tested.the-variants.{Passed}
 use Rattle.records.specs.Page.{hashSize, pageOf}
 use Rattle.records.proofs.PageBytes.{page-key, length-page}
-use Rattle.answers.specs.Design.{Served}
-use Rattle.answers.specs.Judging.{afterCurrent, shown, looked, resumeVerdict}
+use Rattle.answers.specs.Judging.{Verdict, shown, looked, resumeVerdict}
 use Rattle.answers.specs.Answers.{viewed, viewedBy, isGood, Resumed, resumedBy, resumed}
 use Rattle.answers.specs.Edition.{thisEdition}
 use Rattle.answers.specs.Strength.{AcceptedLook}
@@ -24,7 +23,7 @@ use Rattle.answers.proofs.AcceptedCalls.{firstBound, first-stands, firs
 
 module _ (key s : List ℕ) (k : length key ≡ hashSize) (w : length s ≡ hashSize) where
   -- nothing is stored in the first state
-  shows : (rack : ℕ) → shown thisEdition (bytesOfState (firstState racks)) rack ≡ Served.carried (bytesOfState (firstState racks))
+  shows : (rack : ℕ) → shown thisEdition (bytesOfState (firstState racks)) rack ≡ Verdict.good (bytesOfState (firstState racks))
   shows rack =
       let total : totalStored (stateOf racks (bytesOfState (firstState racks))) ≡ 0 = ap totalStored first-back ∙ total-firstState racks in
       rw total
@@ -34,7 +33,7 @@ module _ (key s : List ℕ) (k : length key ≡ hashSize) (w : length s ≡ hash
   views-first rack inside =
       let passed : looked thisEdition (pageOf s key) (firstBound key s) rack ≡ Passed =
       rw (eq-eqb _ _ (length-page s key w k), first-stands key s k w .passes, lt-ltb rack racks inside) in
-      ap (λ v. viewedBy thisEdition rack v .number) (first-stands key s k w .views rack passed ∙ ap afterCurrent (shows rack))
+      ap (λ v. viewedBy thisEdition rack v .number) (first-stands key s k w .views rack passed ∙ shows rack)
 
   hands-back : (onDisk : List ℕ) → resumed thisEdition (pageOf s key) (firstBound key s) onDisk ≡ Resumed.ram
   unfolding resumed

@@ -13,7 +13,7 @@ use Rattle.refusals.specs.declared.Refusal.the-variants.{Page, Answer, Request,
 use Rattle.refusals.specs.Numbers.{numberOf}
 use Rattle.records.specs.declared.Tested.{Tested}
 use Rattle.records.specs.declared.Tested.the-variants.{Passed, Refused}
-use Rattle.answers.specs.Design.{Design, Served, Figures}
+use Rattle.answers.specs.Design.{Design, Served}
 use Rattle.answers.specs.Hashing.{nextSummary, valid}
 
 -- a test by itself: refused unless it holds
@@ -35,22 +35,23 @@ pub data Verdict : Type 0 where
   barred : Refusal → Verdict
   good : List ℕ → Verdict
 
--- from what the tests before 7, test 7, test 8 and the tests behind 8 say, each by itself
-abbrev pub afterCurrent : Served → Verdict
-afterCurrent (Served.carried state) = good state
-afterCurrent (Served.barred r) = barred r
+-- from what the tests before 7, test 7 and test 8 say, each by itself, and the verdict past them
+abbrev pub afterValid : Bool → Verdict → Verdict
+afterValid false next = stale
+afterValid true next = next
 
-abbrev pub afterValid : Bool → Served → Verdict
-afterValid false s = stale
-afterValid true s = afterCurrent s
+abbrev pub afterEarly : Bool → Bool → Verdict → Verdict
+afterEarly false current next = forged
+afterEarly true current next = afterValid current next
 
-abbrev pub afterEarly : Bool → Bool → Served → Verdict
-afterEarly false current s = forged
-afterEarly true current s = afterValid current s
+abbrev pub judged : Tested → Bool → Bool → Verdict → Verdict
+judged (Refused r) valid current next = early r
+judged Passed valid current next = afterEarly valid current next
 
-abbrev pub judged : Tested → Bool → Bool → Served → Verdict
-judged (Refused r) valid current s = early r
-judged Passed valid current s = afterEarly valid current s
+-- past them, perform and repeat have what the service makes of the request
+abbrev pub byService : Served → Verdict
+byService (Served.carried state) = good state
+byService (Served.barred r) = barred r
 
 -- 01's number for a verdict
 abbrev pub number : Verdict → ℕ
@@ -74,12 +75,12 @@ offered D page l request answer = offerTests (D .rightPage page) (leb (D .record
 -- perform: current is a record whose summary is the page's
 unfoldable pub performVerdict : Design → List ℕ → List ℕ → List ℕ → List ℕ → Verdict
 performVerdict D page l request answer =
-    judged (offered D page l request answer) (valid D page l) (same (D .summary l) (D .pageSummary page)) (D .served (D .stateBytes l) request)
+    judged (offered D page l request answer) (valid D page l) (same (D .summary l) (D .pageSummary page)) (byService (D .served (D .stateBytes l) request))
 
 -- repeat: current is a record whose summary, moved on by the request, gives the page's
 unfoldable pub repeatVerdict : Design → List ℕ → List ℕ → List ℕ → List ℕ → Verdict
 repeatVerdict D page l request answer =
-    judged (offered D page l request answer) (valid D page l) (same (nextSummary D (D .summary l) request) (D .pageSummary page)) (D .served (D .stateBytes l) request)
+    judged (offered D page l request answer) (valid D page l) (same (nextSummary D (D .summary l) request) (D .pageSummary page)) (byService (D .served (D .stateBytes l) request))
 
 -- tests 1 to 6 of view, from what the page, the record and the rack say
 abbrev pub lookTests : Bool → Tested → Bool → Tested
@@ -91,9 +92,9 @@ lookTests right tested inside =
 abbrev pub looked : Design → List ℕ → List ℕ → ℕ → Tested
 looked D page l rack = lookTests (D .rightPage page) (D .tested l) (ltb rack (D .racks))
 
--- test 12: the total fits four bytes
-abbrev pub shown : Design → List ℕ → ℕ → Served
-shown D state rack = cond (ltb (D .figures state rack .total) (256 ^ 4)) (Served.carried state) (Served.barred Total)
+-- past test 8 of view, test 12: the total fits four bytes
+abbrev pub shown : Design → List ℕ → ℕ → Verdict
+shown D state rack = cond (ltb (D .figures state rack .total) (256 ^ 4)) (good state) (barred Total)
 
 -- view: current as for perform
 unfoldable pub viewVerdict : Design → List ℕ → List ℕ → ℕ → Verdict
@@ -103,4 +104,4 @@ viewVerdict D page l rack =
 -- resume: tests 1, 3, 4, 5 and 7, and the record's summary is the page's
 unfoldable pub resumeVerdict : Design → List ℕ → List ℕ → Verdict
 resumeVerdict D page l =
-    judged (andThen (unless (D .rightPage page) Page) (D .tested l)) (valid D page l) (same (D .summary l) (D .pageSummary page)) (Served.carried (D .stateBytes l))
+    judged (andThen (unless (D .rightPage page) Page) (D .tested l)) (valid D page l) (same (D .summary l) (D .pageSummary page)) (good (D .stateBytes l))

@@ -10,7 +10,7 @@ use Rattle.records.specs.declared.Tested.the-variants.{Passed}
 use Rattle.records.specs.Page.{zeroSummary}
 use Rattle.answers.specs.Design.{Design, Served}
 use Rattle.answers.specs.Hashing.{nextSummary, bindingOf, valid, boundRecord}
-use Rattle.answers.specs.Judging.{Verdict, afterCurrent, offered, performVerdict, looked, shown, viewVerdict, resumeVerdict}
+use Rattle.answers.specs.Judging.{Verdict, byService, offered, performVerdict, looked, shown, viewVerdict, resumeVerdict}
 use Rattle.answers.specs.Answers.{opened, Performed, performed, repeated}
 
 -- ---- a record on a page
@@ -28,8 +28,8 @@ pub record Stands (D : Design) (page l state : List ℕ) : Type 0 where
   pub passes : D .tested l ≡ Passed
   pub resumes : resumeVerdict D page l ≡ Verdict.good state
   pub performs : (request answer : List ℕ) → offered D page l request answer ≡ Passed
-      → performVerdict D page l request answer ≡ afterCurrent (D .served state request)
-  pub views : (rack : ℕ) → looked D page l rack ≡ Passed → viewVerdict D page l rack ≡ afterCurrent (shown D state rack)
+      → performVerdict D page l request answer ≡ byService (D .served state request)
+  pub views : (rack : ℕ) → looked D page l rack ≡ Passed → viewVerdict D page l rack ≡ shown D state rack
 
 -- ---- what a call has written
 

@@ -36,7 +36,7 @@ use Rattle.hmac.specs.Preparation.{preparedOf}
 use Rattle.bindings.specs.Hashed.{nextSummary}
 use Rattle.bindings.specs.Sealing.{ownAuthenticator, sealedRecord}
 use Rattle.answers.specs.Hashing.{valid, boundRecord}
-use Rattle.answers.specs.Judging.{afterCurrent, judged, offered, performVerdict, repeatVerdict}
+use Rattle.answers.specs.Judging.{byService, judged, offered, performVerdict, repeatVerdict}
 use Rattle.answers.specs.Answers.{Performed, answeredBy, performed, repeated}
 use Rattle.answers.specs.Edition.{inBytes, servedBytes, storedAfter, design}
 use Rattle.offers.specs.declared.Offer.{Offer}
@@ -50,7 +50,7 @@ use Rattle.calls.specs.Next.{movedOn, nextBytes, nextStored}
 
 -- p is what a call answers whose test 8 says c, and which turns the page into `after`
 pub record Answers (f : Form) (page l request answer : List ℕ) (c : Bool) (after : List ℕ) (p : Performed) : Type 0 where
-  pub is : answeredBy (design f) page l request answer after (judged (offered (design f) page l request answer) (valid (design f) page l) c (servedBytes (f .racks) (stateBytes f l) request)) ≡ p
+  pub is : answeredBy (design f) page l request answer after (judged (offered (design f) page l request answer) (valid (design f) page l) c (byService (servedBytes (f .racks) (stateBytes f l) request))) ≡ p
 
 module _ (f : Form) (page l request answer : List ℕ) where
   -- perform: a record whose summary is the page's, and the page moves on
@@ -109,7 +109,7 @@ module _ {f : Form} {page l request answer after : List ℕ} {c : Bool} {p : Per
 
         -- w is the charge rules' ruling
         module _ (current : not t ≡ false) {w : Ruling} (judgement : w ≡ ruling (state f l) q) where
-          served : answeredBy (design f) page l request answer after (afterCurrent (inBytes (byRuling (ruling (state f l) q) (carryOut (state f l) q)))) ≡ p
+          served : answeredBy (design f) page l request answer after (byService (inBytes (byRuling (ruling (state f l) q) (carryOut (state f l) q)))) ≡ p
           served = rw (past .0, passed r _ valid-is ok, passed t c eight current, served-is f page l request answer q asked) at (call .is)
 
           pub barred : (b : Refusal) → w ≡ Barred b → told (Refused b) page answer ≡ p

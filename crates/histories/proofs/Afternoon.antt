@@ -3,9 +3,9 @@
 -- asked of authenticators. Assumes nothing.
 use mathlib.Core.Path.{_≡_, refl, sym, ap, _∙_}
 use mathlib.Core.Bool.{Bool, true, false}
-use Prim.Native.Nat.{ℕ, zero, suc, _<_, _≤_}
+use Prim.Native.Nat.{ℕ, zero, suc, _<_}
 use native.Mathlib.Omega.{arith}
-use mathlib.Core.List.{List, [], _∷_, List·Memᴰ, List·Memᴰ·head}
+use mathlib.Core.List.{List, [], List·Memᴰ, List·Memᴰ·head}
 use lib.Dec.{leb}
 use borrow.Author.Tests.{leb-true, leb-false}
 use Rattle.refusals.specs.declared.Refusal.the-variants.{Current}
@@ -13,7 +13,7 @@ use Rattle.refusals.specs.Numbers.{numberOf}
 use Rattle.numbers.specs.Comparing.{same}
 use Rattle.answers.specs.Design.{Design}
 use Rattle.answers.specs.Hashing.{nextSummary}
-use Rattle.answers.specs.Judging.{number, shown, performVerdict, viewVerdict, resumeVerdict}
+use Rattle.answers.specs.Judging.{number, byService, shown, performVerdict, viewVerdict, resumeVerdict}
 use Rattle.answers.specs.Answers.{performed, viewed}
 use Rattle.answers.proofs.Refusals.{refusals-change-nothing}
 use Rattle.histories.specs.Calls.{Call, performs, views}
@@ -66,7 +66,7 @@ module _ (D : Design) (laws : Laws D) (fresh : List ℕ) (f : Fresh D fresh) (ru
             (refused, refusals-change-nothing D .performs page l request answer (λ zero. absurd (omega (arith, refused .refused))));
         performEight = λ request answer tests seven.
             answered-number D page l request answer (D .withSummary page (nextSummary D (D .summary l) request)) (performVerdict D page l request answer)
-            ∙ ap number (judged-stale (D .served (D .stateBytes l) request) tests seven other);
+            ∙ ap number (judged-stale (byService (D .served (D .stateBytes l) request)) tests seven other);
         view = λ rack. not-taken _ l _ (ties .viewTaken l rack) (never (views l rack));
         viewEight = λ rack tests seven.
             viewed-number D page l rack (viewVerdict D page l rack) ∙ ap number (judged-stale (shown D (D .stateBytes l) rack) tests seven other);

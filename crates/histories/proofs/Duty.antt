@@ -2,7 +2,7 @@
 -- 8; with the page of after it is the other way round; the record answered is that of the uncut call. The idea: both halves of 'exactly
 -- one' rest on this, that no request leads back to the summary that it starts from. Nothing is asked of authenticators. Assumes nothing.
 use mathlib.Core.Path.{_≡_, refl, sym, ap, _∙_}
-use mathlib.Core.Bool.{Bool, true, false}
+use mathlib.Core.Bool.{Bool, true}
 use Prim.Native.Nat.{ℕ, _≤_, _+_}
 use native.Mathlib.Omega.{arith}
 use mathlib.Core.List.{List, [], _∷_, _++_, List·Memᴰ, List·Memᴰ·head, Memᴰ·append-right}
@@ -16,7 +16,7 @@ use Rattle.records.specs.declared.Tested.the-variants.{Passed, Refused}
 use Rattle.bindings.specs.Hashed.{summaryMessage}
 use Rattle.answers.specs.Design.{Design, Served}
 use Rattle.answers.specs.Hashing.{nextSummary, bindingOf, bindingIn, valid}
-use Rattle.answers.specs.Judging.{Verdict, early, forged, stale, barred, good, judged, offered, performVerdict, repeatVerdict, viewVerdict, resumeVerdict}
+use Rattle.answers.specs.Judging.{Verdict, early, forged, stale, barred, good, judged, byService, offered, performVerdict, repeatVerdict, viewVerdict, resumeVerdict}
 use Rattle.answers.specs.Answers.{openTests, Performed, nextRecord, answeredBy, performed, repeated}
 use Rattle.answers.specs.Written.{front}
 use Rattle.answers.proofs.Tests.{Offer, offer, offered-passes}
@@ -29,14 +29,14 @@ use Rattle.histories.specs.Duty.{Retried, ByPerform, ByRepeat, Duty, NoP
 use Rattle.histories.proofs.Paths.{endOf, never-back}
 use Rattle.histories.proofs.Steps.{each-before}
 use Rattle.histories.proofs.Verdicts.{differ, judged-stale, Past, past-good, perform-past, perform-good, perform-accepted}
-use Rattle.histories.proofs.Inversions.{Taken, Led, Moved, stays, moves, moved-step}
+use Rattle.histories.proofs.Inversions.{Moved, stays, moves, moved-step}
 use Rattle.histories.proofs.Invariant.{neededIn}
 use Rattle.histories.proofs.Moments.{stands-at, needed-at}
 
 -- ---- the two retries
 
 judged-good : {t : Tested} {valid current : Bool} {s : Served} (state : List ℕ) → t ≡ Passed → valid ≡ true → current ≡ true → s ≡ Served.carried state
-    → judged t valid current s ≡ good state
+    → judged t valid current (byService s) ≡ good state
 judged-good state tests seven eight serves = rw (tests, seven, eight, serves) refl
 
 -- what an accepted perform answers
@@ -83,7 +83,7 @@ module _ (D : Design) (laws : Laws D) (page l request answer state room : List �
       record {
         perform = retried _ (perform-is D page l request room state (judged-good state (again page (offering .right)) (past .seven) (past .eight) serves));
         repeat = ap (answeredBy D page l request room page)
-            (judged-stale (D .served (D .stateBytes l) request) (again page (offering .right)) (past .seven) (differ (nextSummary D (D .summary l) request) (D .pageSummary page) never));
+            (judged-stale (byService (D .served (D .stateBytes l) request)) (again page (offering .right)) (past .seven) (differ (nextSummary D (D .summary l) request) (D .pageSummary page) never));
       }
 
   by-repeat : ByRepeat D (performed D page l request answer) (D .withSummary page (nextSummary D (D .summary l) request)) l request room
@@ -103,7 +103,7 @@ module _ (D : Design) (laws : Laws D) (page l request answer state room : List �
             ∙ ap {B = Performed} (λ tag. record { number = 0; stored = D .storedAfter state request; page = after; answer = over 0 (D .recordOf state next tag) room })
             (mac (bindingOf D next state)));
         perform = ap (answeredBy D after l request room (D .withSummary after next))
-            (judged-stale (D .served (D .stateBytes l) request) tests seven (differ (D .summary l) (D .pageSummary after) moved));
+            (judged-stale (byService (D .served (D .stateBytes l) request)) tests seven (differ (D .summary l) (D .pageSummary after) moved));
       }
 
 -- ---- the page since the cut

@@ -1,6 +1,6 @@
 -- What a call found valid, took and moved is what its number says. The idea: the number and what was done are both functions of the
 -- verdict, and the numbers of the verdicts stand in the order of the tests. Assumes nothing.
-use mathlib.Core.Path.{_≡_, refl, sym, _∙_}
+use mathlib.Core.Path.{_≡_, refl, _∙_}
 use mathlib.Core.Bool.{Bool, true, false, cond}
 use Prim.Native.Nat.{ℕ, _<_, _^_}
 use native.Mathlib.Omega.{arith}
@@ -15,8 +15,8 @@ use Rattle.records.specs.declared.Tested.{Tested}
 use Rattle.records.specs.declared.Tested.the-variants.{Passed, Refused}
 use Rattle.answers.specs.Design.{Design, Served}
 use Rattle.answers.specs.Hashing.{nextSummary, valid}
-use Rattle.answers.specs.Judging.{unless, andThen, Verdict, early, forged, stale, barred, good, judged, number, offered, looked, shown, performVerdict, repeatVerdict, viewVerdict, resumeVerdict}
-use Rattle.answers.specs.Answers.{answeredBy, performed, repeated, viewedBy, viewed, Resumed, isGood, resumedBy, resumed}
+use Rattle.answers.specs.Judging.{unless, andThen, Verdict, early, forged, stale, barred, good, judged, byService, number, offered, looked, shown, performVerdict, repeatVerdict, viewVerdict, resumeVerdict}
+use Rattle.answers.specs.Answers.{answeredBy, performed, repeated, viewedBy, viewed, isGood, resumedBy, resumed}
 use Rattle.answers.proofs.Tests.{offer}
 use Rattle.histories.specs.Did.{Did, performDid, repeatDid, lookDid, resumeDid}
 use Rattle.histories.specs.Ties.{PastTest, handedBack, WhereAccepted, DidByNumber, NumberLaws}
@@ -41,18 +41,23 @@ record Ordered (v : Verdict) : Type 0 where
   early : (r : Refusal) → v ≡ early r → numberOf r < numberOf Authenticator
   behind : (r : Refusal) → v ≡ barred r → numberOf Current < numberOf r
 
-ordered : (t : Tested) (valid current : Bool) (s : Served) → Low t → (t ≡ Passed → (r : Refusal) → s ≡ Served.barred r → numberOf Current < numberOf r)
-    → Ordered (judged t valid current s)
-ordered (Refused x) v c s low high =
+ordered : (t : Tested) (valid current : Bool) (next : Verdict) → Low t → (t ≡ Passed → Ordered next) → Ordered (judged t valid current next)
+ordered (Refused x) v c next low high =
     record { early = λ r e. let is : x ≡ r = cc in low r (rw is refl); behind = λ r e. let z : _≡_ {A = ℕ} 0 1 = cc in absurd (omega arith) }
-ordered Passed false c s low high =
+ordered Passed false c next low high =
     record { early = λ r e. let z : _≡_ {A = ℕ} 0 1 = cc in absurd (omega arith); behind = λ r e. let z : _≡_ {A = ℕ} 0 1 = cc in absurd (omega arith) }
-ordered Passed true false s low high =
+ordered Passed true false next low high =
     record { early = λ r e. let z : _≡_ {A = ℕ} 0 1 = cc in absurd (omega arith); behind = λ r e. let z : _≡_ {A = ℕ} 0 1 = cc in absurd (omega arith) }
-ordered Passed true true (Served.carried x) low high =
+ordered Passed true true next low high = high refl
+
+-- past test 8
+ordered-good : (state : List ℕ) → Ordered (good state)
+ordered-good state =
     record { early = λ r e. let z : _≡_ {A = ℕ} 0 1 = cc in absurd (omega arith); behind = λ r e. let z : _≡_ {A = ℕ} 0 1 = cc in absurd (omega arith) }
-ordered Passed true true (Served.barred x) low high =
-    record { early = λ r e. let z : _≡_ {A = ℕ} 0 1 = cc in absurd (omega arith); behind = λ r e. let is : x ≡ r = cc in high refl r (rw is refl) }
+
+ordered-barred : (x : Refusal) → numberOf Current < numberOf x → Ordered (barred x)
+ordered-barred x high =
+    record { early = λ r e. let z : _≡_ {A = ℕ} 0 1 = cc in absurd (omega arith); behind = λ r e. let is : x ≡ r = cc in rw is at high }
 
 -- ---- found valid and taken, by the verdict
 
@@ -144,7 +149,7 @@ takenIf true l = l ∷ []
 takenIf false l = []
 
 looked-if : (D : Design) (page l : List ℕ) (t : Tested) (valid current : Bool) (state : List ℕ)
-    → lookDid D page l (judged t valid current (Served.carried state)) .taken ≡ takenIf (isGood (judged t valid current (Served.carried state))) l
+    → lookDid D page l (judged t valid current (good state)) .taken ≡ takenIf (isGood (judged t valid current (good state))) l
 looked-if D page l (Refused r) v c state = refl
 looked-if D page l Passed false c state = refl
 looked-if D page l Passed true false state = refl
@@ -156,8 +161,8 @@ from-disk inRam onDisk false = refl
 
 resumed-is : (D : Design) (page inRam onDisk : List ℕ) (t : Tested) (valid current : Bool) (state : List ℕ) (disk : Did) (disks : Bool)
     → disk .taken ≡ takenIf disks onDisk
-    → resumeDid (judged t valid current (Served.carried state)) (lookDid D page inRam (judged t valid current (Served.carried state))) disk .taken
-    ≡ handedBack (resumedBy (isGood (judged t valid current (Served.carried state))) disks) inRam onDisk
+    → resumeDid (judged t valid current (good state)) (lookDid D page inRam (judged t valid current (good state))) disk .taken
+    ≡ handedBack (resumedBy (isGood (judged t valid current (good state))) disks) inRam onDisk
 resumed-is D page inRam onDisk (Refused r) v c state disk disks is = is ∙ from-disk inRam onDisk disks
 resumed-is D page inRam onDisk Passed false c state disk disks is = is ∙ from-disk inRam onDisk disks
 resumed-is D page inRam onDisk Passed true false state disk disks is = is ∙ from-disk inRam onDisk disks
@@ -171,29 +176,33 @@ module _ (D : Design) (laws : NumberLaws D) (page : List ℕ) where
       (low-then (D .tested l) (unless (D .formed request) Request) (laws .early l) (low-unless (D .formed request) Request (omega arith))))
 
   -- the charge rules are asked about a well-formed request only
-  high-offered : (l request answer : List ℕ) → offered D page l request answer ≡ Passed → (r : Refusal) → D .served (D .stateBytes l) request ≡ Served.barred r
-      → numberOf Current < numberOf r
-  high-offered l request answer passed r e = laws .behind (D .stateBytes l) request r (offer D page l request answer passed .formed) e
+  high-served : (s : Served) → ((r : Refusal) → s ≡ Served.barred r → numberOf Current < numberOf r) → Ordered (byService s)
+  high-served (Served.carried state) high = ordered-good state
+  high-served (Served.barred r) high = ordered-barred r (high r refl)
+
+  high-offered : (l request answer : List ℕ) → offered D page l request answer ≡ Passed → Ordered (byService (D .served (D .stateBytes l) request))
+  high-offered l request answer passed =
+      high-served (D .served (D .stateBytes l) request) (λ r e. laws .behind (D .stateBytes l) request r (offer D page l request answer passed .formed) e)
 
   low-looked : (l : List ℕ) (rack : ℕ) → Low (looked D page l rack)
   low-looked l rack =
       low-then (unless (D .rightPage page) Page) _ (low-unless (D .rightPage page) Page (omega arith))
       (low-then (D .tested l) (unless (ltb rack (D .racks)) Request) (laws .early l) (low-unless (ltb rack (D .racks)) Request (omega arith)))
 
-  high-shown : (fits : Bool) (state : List ℕ) (r : Refusal) → cond fits (Served.carried state) (Served.barred Total) ≡ Served.barred r → numberOf Current < numberOf r
-  high-shown true state r e = let z : _≡_ {A = ℕ} 0 1 = cc in absurd (omega arith)
-  high-shown false state r e = let is : Total ≡ r = cc in rw (sym is) (omega arith)
+  high-shown : (fits : Bool) (state : List ℕ) → Ordered (cond fits (good state) (barred Total))
+  high-shown true state = ordered-good state
+  high-shown false state = ordered-barred Total (omega arith)
 
   perform-ordered : (l request answer : List ℕ) → Ordered (performVerdict D page l request answer)
   unfolding performVerdict
   perform-ordered l request answer =
-      ordered (offered D page l request answer) (valid D page l) (same (D .summary l) (D .pageSummary page)) (D .served (D .stateBytes l) request)
+      ordered (offered D page l request answer) (valid D page l) (same (D .summary l) (D .pageSummary page)) (byService (D .served (D .stateBytes l) request))
       (low-offered l request answer) (high-offered l request answer)
 
   repeat-ordered : (l request answer : List ℕ) → Ordered (repeatVerdict D page l request answer)
   unfolding repeatVerdict
   repeat-ordered l request answer =
-      ordered (offered D page l request answer) (valid D page l) (same (nextSummary D (D .summary l) request) (D .pageSummary page)) (D .served (D .stateBytes l) request)
+      ordered (offered D page l request answer) (valid D page l) (same (nextSummary D (D .summary l) request) (D .pageSummary page)) (byService (D .served (D .stateBytes l) request))
       (low-offered l request answer) (high-offered l request answer)
 
   view-ordered : (l : List ℕ) (rack : ℕ) → Ordered (viewVerdict D page l rack)

@@ -15,8 +15,8 @@ use Rattle.records.specs.declared.Tested.{Tested}
 use Rattle.records.specs.declared.Tested.the-variants.{Passed, Refused}
 use Rattle.answers.specs.Design.{Design, Served}
 use Rattle.answers.specs.Hashing.{nextSummary, valid}
-use Rattle.answers.specs.Judging.{unless, andThen, Verdict, early, forged, stale, barred, good, judged, offered, looked, shown, performVerdict, repeatVerdict, viewVerdict, resumeVerdict}
-use Rattle.answers.specs.Answers.{Performed, answeredBy, performed, repeated, viewedBy, viewed, Resumed, isGood, resumedBy, resumed}
+use Rattle.answers.specs.Judging.{unless, andThen, Verdict, early, forged, stale, barred, good, judged, byService, offered, looked, shown, performVerdict, repeatVerdict, viewVerdict, resumeVerdict}
+use Rattle.answers.specs.Answers.{answeredBy, performed, viewedBy, viewed, Resumed, isGood, resumedBy, resumed}
 use Rattle.answers.proofs.Tests.{offer}
 
 -- ---- tests
@@ -42,19 +42,22 @@ pub record Past (t : Tested) (valid current : Bool) : Type 0 where
   pub seven : valid ≡ true
   pub eight : current ≡ true
 
-past-judged : (t : Tested) (valid current : Bool) (s : Served) → past (judged t valid current s) ≡ true → Past t valid current
+past-judged : (t : Tested) (valid current : Bool) (next : Verdict) → past (judged t valid current next) ≡ true → Past t valid current
 past-judged (Refused r) v c s e = absurd (false≢true e)
 past-judged Passed false c s e = absurd (false≢true e)
 past-judged Passed true false s e = absurd (false≢true e)
 past-judged Passed true true s e = record { tests = refl; seven = refl; eight = refl }
 
--- a good verdict has the state that the service gives
-good-judged : (t : Tested) (valid current : Bool) (s : Served) (state : List ℕ) → judged t valid current s ≡ good state → s ≡ Served.carried state
-good-judged (Refused r) v c s state e = let z : _≡_ {A = ℕ} 0 1 = cc in absurd (omega arith)
-good-judged Passed false c s state e = let z : _≡_ {A = ℕ} 0 1 = cc in absurd (omega arith)
-good-judged Passed true false s state e = let z : _≡_ {A = ℕ} 0 1 = cc in absurd (omega arith)
-good-judged Passed true true (Served.carried x) state e = cc
-good-judged Passed true true (Served.barred r) state e = let z : _≡_ {A = ℕ} 0 1 = cc in absurd (omega arith)
+-- a good verdict is that past test 8, and has the state that the service gives
+good-judged : (t : Tested) (valid current : Bool) (next : Verdict) (state : List ℕ) → judged t valid current next ≡ good state → next ≡ good state
+good-judged (Refused r) v c next state e = let z : _≡_ {A = ℕ} 0 1 = cc in absurd (omega arith)
+good-judged Passed false c next state e = let z : _≡_ {A = ℕ} 0 1 = cc in absurd (omega arith)
+good-judged Passed true false next state e = let z : _≡_ {A = ℕ} 0 1 = cc in absurd (omega arith)
+good-judged Passed true true next state e = e
+
+good-service : (s : Served) (state : List ℕ) → byService s ≡ good state → s ≡ Served.carried state
+good-service (Served.carried x) state e = cc
+good-service (Served.barred r) state e = let z : _≡_ {A = ℕ} 0 1 = cc in absurd (omega arith)
 
 -- lists that differ are not the same
 pub differ : (a b : List ℕ) → (a ≡ b → ⊥) → same a b ≡ false
@@ -65,8 +68,8 @@ differ a b h = by-test (same a b) refl
     by-test false e = e
 
 -- a record past test 7 that is not current is stale
-pub judged-stale : {t : Tested} {valid current : Bool} (s : Served) → t ≡ Passed → valid ≡ true → current ≡ false → judged t valid current s ≡ stale
-judged-stale s tests seven eight = rw (tests, seven, eight) refl
+pub judged-stale : {t : Tested} {valid current : Bool} (next : Verdict) → t ≡ Passed → valid ≡ true → current ≡ false → judged t valid current next ≡ stale
+judged-stale next tests seven eight = rw (tests, seven, eight) refl
 
 -- a good verdict is past test 8
 pub past-good : (v : Verdict) (state : List ℕ) → v ≡ good state → past v ≡ true
@@ -89,7 +92,7 @@ pub record Fits (D : Design) (page l : List ℕ) : Type 0 where
 pub perform-past : (D : Design) (page l request answer : List ℕ) → past (performVerdict D page l request answer) ≡ true
     → Past (offered D page l request answer) (valid D page l) (same (D .summary l) (D .pageSummary page))
 unfolding performVerdict
-perform-past D page l request answer e = past-judged _ _ _ (D .served (D .stateBytes l) request) e
+perform-past D page l request answer e = past-judged _ _ _ (byService (D .served (D .stateBytes l) request)) e
 
 pub perform-fits : (D : Design) (page l request answer : List ℕ) → past (performVerdict D page l request answer) ≡ true → Fits D page l
 perform-fits D page l request answer e =
@@ -100,7 +103,7 @@ pub repeat-tests : (D : Design) (page l request answer : List ℕ) → past (rep
 unfolding repeatVerdict
 repeat-tests D page l request answer e =
     let p : Past (offered D page l request answer) (valid D page l) (same (nextSummary D (D .summary l) request) (D .pageSummary page)) =
-    past-judged _ _ _ (D .served (D .stateBytes l) request) e in
+    past-judged _ _ _ (byService (D .served (D .stateBytes l) request)) e in
     offer D page l request answer (p .tests) .tests
 
 pub view-fits : (D : Design) (page l : List ℕ) (rack : ℕ) → past (viewVerdict D page l rack) ≡ true → Fits D page l
@@ -112,7 +115,7 @@ view-fits D page l rack e =
 pub resume-fits : (D : Design) (page l : List ℕ) → past (resumeVerdict D page l) ≡ true → Fits D page l
 unfolding resumeVerdict
 resume-fits D page l e =
-    let p = past-judged (andThen (unless (D .rightPage page) Page) (D .tested l)) (valid D page l) (same (D .summary l) (D .pageSummary page)) (Served.carried (D .stateBytes l)) e in
+    let p = past-judged (andThen (unless (D .rightPage page) Page) (D .tested l)) (valid D page l) (same (D .summary l) (D .pageSummary page)) (good (D .stateBytes l)) e in
     record { tests = both (unless (D .rightPage page) Page) (D .tested l) (p .tests) .1; current = same-iff _ _ .0 (p .eight) }
 
 -- accepted: the state that the service gives
@@ -120,17 +123,17 @@ pub perform-good : (D : Design) (page l request answer state : List ℕ) → per
     → D .served (D .stateBytes l) request ≡ Served.carried state
 unfolding performVerdict
 perform-good D page l request answer state e =
-    good-judged (offered D page l request answer) (valid D page l) (same (D .summary l) (D .pageSummary page)) _ state e
+    good-service _ state (good-judged (offered D page l request answer) (valid D page l) (same (D .summary l) (D .pageSummary page)) _ state e)
 
 pub repeat-good : (D : Design) (page l request answer state : List ℕ) → repeatVerdict D page l request answer ≡ good state
     → D .served (D .stateBytes l) request ≡ Served.carried state
 unfolding repeatVerdict
 repeat-good D page l request answer state e =
-    good-judged (offered D page l request answer) (valid D page l) (same (nextSummary D (D .summary l) request) (D .pageSummary page)) _ state e
+    good-service _ state (good-judged (offered D page l request answer) (valid D page l) (same (nextSummary D (D .summary l) request) (D .pageSummary page)) _ state e)
 
 -- view shows the record's own state
 shown-state : (D : Design) (state : List ℕ) (rack : ℕ) (fits : Bool) (x : List ℕ)
-    → cond fits (Served.carried state) (Served.barred Total) ≡ Served.carried x → x ≡ state
+    → cond fits (good state) (barred Total) ≡ good x → x ≡ state
 shown-state D state rack true x e = cc
 shown-state D state rack false x e = let z : _≡_ {A = ℕ} 0 1 = cc in absurd (omega arith)
 

@@ -20,22 +20,22 @@ use Rattle.hmac.specs.declared.Prepared.{Prepared}
 use Rattle.hmac.specs.Preparation.{preparedOf}
 use Rattle.bindings.specs.Sealing.{ownAuthenticator}
 use Rattle.offers.proofs.Authenticators.{valid-prepared}
-use Rattle.answers.specs.Design.{Design, Served}
+use Rattle.answers.specs.Design.{Design}
 use Rattle.answers.specs.Hashing.{valid}
-use Rattle.answers.specs.Judging.{unless, andThen, judged, resumeVerdict}
+use Rattle.answers.specs.Judging.{unless, andThen, Verdict, judged, resumeVerdict}
 use Rattle.answers.specs.Answers.{Resumed, isGood, resumedBy, resumed}
 use Rattle.answers.specs.Edition.{design}
 
 -- ---- whether one record is current
 
-good-is : (c : Bool) (state : List ℕ) → c ≡ isGood (judged Passed true c (Served.carried state))
+good-is : (c : Bool) (state : List ℕ) → c ≡ isGood (judged Passed true c (Verdict.good state))
 good-is true state = refl
 good-is false state = refl
 
 module _ (f : Form) (page l : List ℕ) where
   -- the tests' own values
   current-by : (a b c : Bool) (t : Tested) → eqb (length page) pageSize ≡ a → tested f l ≡ t → valid (design f) page l ≡ b → same (summary f l) (pageSummary page) ≡ c
-      → isGood (judged (andThen (unless a Page) t) b c (Served.carried (stateBytes f l))) ≡ isGood (resumeVerdict (design f) page l)
+      → isGood (judged (andThen (unless a Page) t) b c (Verdict.good (stateBytes f l))) ≡ isGood (resumeVerdict (design f) page l)
   unfolding resumeVerdict
   current-by a b c t p q r s = cc
 

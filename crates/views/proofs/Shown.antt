@@ -34,7 +34,7 @@ use Rattle.offers.specs.Offers.{lookedAt, PassedLook}
 use Rattle.offers.proofs.Authenticators.{valid-prepared}
 use Rattle.offers.proofs.Passing.{looked, looked-length, looked-good}
 use Rattle.answers.specs.Hashing.{valid}
-use Rattle.answers.specs.Judging.{judged, afterCurrent, shown, viewVerdict}
+use Rattle.answers.specs.Judging.{judged, shown, viewVerdict}
 use Rattle.answers.specs.Answers.{Viewed, viewedBy, viewed}
 use Rattle.answers.specs.Edition.{figuresOf, design}
 use Rattle.views.specs.declared.ViewAnswer.the-variants.{Seen, Refused as RefusedView}
@@ -43,11 +43,11 @@ use Rattle.views.specs.Seen.{seenIn}
 
 -- what the definition of view says past test 8
 shown-by : (f : Form) (l : List ℕ) (rack : ℕ) (b : Bool) → ltb (totalStored (stateOf (f .racks) l)) (256 ^ 4) ≡ b
-    → viewedBy (design f) rack (afterCurrent (shown (design f) l rack)) ≡ seenIn (stateOf (f .racks) l) rack
+    → viewedBy (design f) rack (shown (design f) l rack) ≡ seenIn (stateOf (f .racks) l) rack
 shown-by f l rack true e = rw e refl
 shown-by f l rack false e = rw e refl
 
-shown-is : (f : Form) (l : List ℕ) (rack : ℕ) → viewedBy (design f) rack (afterCurrent (shown (design f) l rack)) ≡ seenIn (stateOf (f .racks) l) rack
+shown-is : (f : Form) (l : List ℕ) (rack : ℕ) → viewedBy (design f) rack (shown (design f) l rack) ≡ seenIn (stateOf (f .racks) l) rack
 shown-is f l rack = shown-by f l rack _ refl
 
 -- ---- tests 1 to 8

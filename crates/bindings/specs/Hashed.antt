@@ -1,12 +1,12 @@
 -- Document 01, 'What is hashed': the state hash, the next summary, the binding of a summary and a state hash, and the authenticator.
 -- Each message begins with a byte of its own, so that no two kinds of message are the same. Assumes nothing.
-use Rattle.records.specs.Form.{Form}
 use Prim.Native.Nat.{ℕ}
 use mathlib.Core.List.{List, [], _∷_, _++_}
 use Rattle.sha256.specs.Computation.{sha256}
 use Rattle.hmac.specs.Hmac.{hmac}
+use Rattle.records.specs.Form.{Form}
 
--- the first bytes of the two other kinds of message; a state's is its form's
+-- the first byte of each kind of message; a state's is its form's
 abbrev pub summaryTag : ℕ
 summaryTag = 0x02
 

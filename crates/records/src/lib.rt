@@ -1,5 +1,5 @@
-// The page and the record in lent bytes: their parts where they lie, and the tests 3, 4 and 5 of a record. What reads or
-// writes a record is told its form.
+// The page and the record in lent bytes: their parts where they lie, and the tests 3, 4 and 5 of a record. What reads
+// or writes a record is told its form.
 mod edition;
 mod forms;
 mod pages;
@@ -29,8 +29,8 @@ pub const PAGE_SIZE: usize = 64;
 // How many bytes stand before a record's racks: its length and its version.
 pub const HEADER_SIZE: usize = 3;
 
-// The forms of a record, by their versions. A form is the racks, the length, the version and the byte before its state; `forms`
-// says them.
+// The forms of a record, by their versions. A form is how many racks a record holds, its length, its version and the
+// byte that is hashed before its state; `forms` says them.
 pub enum Form {
     Version1,
 }

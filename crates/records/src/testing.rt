@@ -1,4 +1,5 @@
-// The tests 3, 4 and 5 of a record, in their order. The first two bytes of the form's header decide 3 and its third decides 4.
+// The tests 3, 4 and 5 of a record, in their order. The first two bytes of the form's header decide 3, and its third
+// decides 4.
 use crate::Form;
 use crate::Tested;
 use crate::forms::header_of;

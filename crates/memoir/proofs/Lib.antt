@@ -2,6 +2,7 @@
 -- empty.
 pub mod Variables
 pub mod Answers
+pub mod Enabling
 pub mod Performs
 pub mod Repeats
 pub mod Possibles

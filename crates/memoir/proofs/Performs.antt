@@ -2,17 +2,13 @@
 -- back as what its LET names. Assumes nothing.
 use mathlib.Core.Path.{_≡_, refl, sym, ap, _∙_}
 use Prim.Native.Nat.{ℕ}
-use mathlib.Core.List.{List, [], _∷_, List·Memᴰ}
-use Rattle.numbers.proofs.Comparison.{same-iff}
-use Rattle.bindings.specs.Hashed.{authenticatorOf}
+use mathlib.Core.List.{List, _∷_, List·Memᴰ}
 use Rattle.records.specs.Form.{Form}
-use Rattle.records.specs.Page.{pageSummary, pageKey}
+use Rattle.records.specs.Page.{pageSummary}
 use Rattle.records.specs.Record.{summary, authenticator}
 use Rattle.answers.specs.Hashing.{nextSummary}
 use Rattle.answers.specs.Answers.{Performed, performed}
-use Rattle.answers.specs.Accepting.{PerformPassing}
 use Rattle.answers.specs.Edition.{design}
-use Rattle.answers.proofs.Tests.{offer}
 use Rattle.answers.proofs.Accepted.{perform-passed, perform-is}
 use Rattle.answers.proofs.ReadsBack.{reads-back}
 use Rattle.answers.proofs.Keys.{key-stays}
@@ -22,33 +18,20 @@ use Rattle.memoir.specs.Instance.{constants}
 use Rattle.memoir.specs.Actions.{offering, written, accepted, Possible}
 use Rattle.memoir.specs.Theorems.{PerformIsAction}
 use Rattle.memoir.proofs.Variables.{storage-is, trusted-is, vars-are}
-use Rattle.memoir.proofs.Answers.{offered-binding, new-state, new-summary, new-authenticator, new-output}
+use Rattle.memoir.proofs.Enabling.{validates, passes}
+use Rattle.memoir.proofs.Answers.{new-state, new-summary, new-authenticator, new-output}
 
 module _ (f : Form) (page l request answer : List ℕ) (vars : LL1Vars) where
   -- accepted, so enabled
   enabled : performed (design f) page l request answer .number ≡ 0 → Enabled (constants f) (offering f page l vars) request
   enabled e =
       let (state, p) = perform-passed (design f) page l request answer e in
-      record {
-        valid = same-iff _ _ .1 (p .authentic ∙ ap (λ (b : List ℕ). authenticatorOf (pageKey page) [] b) (sym (offered-binding f l)));
-        current = sym (p .current);
-      }
+      record { valid = validates f page l request answer _ state p; current = sym (p .current) }
 
   -- enabled, so accepted, where the tests 1 to 6 and the charge rules let it pass
   accepts : Possible f page l request answer → Enabled (constants f) (offering f page l vars) request → performed (design f) page l request answer .number ≡ 0
   accepts can enabled =
-      let o = offer (design f) page l request answer (can .passed) in
-      let passing : PerformPassing (design f) page l request answer (can .state) =
-      record {
-        right = o .right;
-        room = o .room;
-        tests = o .tests;
-        formed = o .formed;
-        authentic = same-iff _ _ .0 (enabled .valid) ∙ ap (λ (b : List ℕ). authenticatorOf (pageKey page) [] b) (offered-binding f l);
-        current = sym (enabled .current);
-        carries = can .carries;
-      } in
-      ap (λ (p : Performed). p .number) (perform-is (design f) page l request answer (can .state) passing)
+      ap (λ (p : Performed). p .number) (perform-is (design f) page l request answer (can .state) (passes f page l request answer _ can (enabled .valid) (sym (enabled .current))))
 
   -- accepted, so the action
   acts : List·Memᴰ request (vars .LL1AvailableInputs) → performed (design f) page l request answer .number ≡ 0

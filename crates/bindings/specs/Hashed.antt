@@ -1,5 +1,6 @@
 -- Document 01, 'What is hashed': the state hash, the next summary, the binding of a summary and a state hash, and the authenticator.
--- Each message begins with a byte of its own, so that no two kinds of message are the same. Assumes nothing.
+-- Each message begins with a byte that says its kind: that of the form, 01 in this edition, for a state, 02 for a summary, 03 for a binding.
+-- Assumes nothing.
 use Prim.Native.Nat.{ℕ}
 use mathlib.Core.List.{List, [], _∷_, _++_}
 use Rattle.sha256.specs.Computation.{sha256}

@@ -6,48 +6,48 @@ use mathlib.Core.List.{List}
 use lib.ListN.{length}
 use borrow.Author.Tests.{eq-eqb, lt-ltb}
 use Rattle.numbers.specs.Numbers.{Bytes}
-use Rattle.racks.specs.Racks.{firstState}
-use Rattle.racks.specs.Layout.{state_of, bytesOfState}
-use Rattle.racks.specs.Figures.{totalStored}
+use Rattle.racks.specs.Racks.{first_state}
+use Rattle.racks.specs.Layout.{state_of, bytes_of_state}
+use Rattle.racks.specs.Figures.{total_stored}
 use Rattle.racks.specs.Edition.{racks}
-use Rattle.racks.proofs.FirstState.{total-firstState}
+use Rattle.racks.proofs.FirstState.{total-first_state}
 use Rattle.records.specs.declared.Tested.TheVariants.{Passed}
-use Rattle.records.specs.Page.{hashSize, page_of}
-use Rattle.records.proofs.PageBytes.{page-key, length-page}
-use Rattle.answers.specs.Judging.{Verdict, shown, looked, resumeVerdict}
-use Rattle.answers.specs.Answers.{viewed, viewedBy, isGood, Resumed, resumedBy, resumed}
-use Rattle.answers.specs.Edition.{thisEdition}
+use Rattle.records.specs.Page.{hash_size, page_of}
+use Rattle.records.proofs.PageBytes.{page_key_lem, length_page}
+use Rattle.answers.specs.Judging.{Verdict, shown, looked, resume_verdict}
+use Rattle.answers.specs.Answers.{viewed, viewed_by, is_good, Resumed, resumed_by, resumed}
+use Rattle.answers.specs.Edition.{this_edition}
 use Rattle.answers.specs.Strength.{AcceptedLook}
 use Rattle.answers.proofs.Witnesses.{first_back}
-use Rattle.answers.proofs.AcceptedCalls.{firstBound, first-stands, first_reads, first-buffers}
+use Rattle.answers.proofs.AcceptedCalls.{first_bound, first_stands, first_reads, first_buffers}
 
-module _ (key s : List ℕ) (k : length key ≡ hashSize) (w : length s ≡ hashSize) where
+module _ (key s : List ℕ) (k : length key ≡ hash_size) (w : length s ≡ hash_size) where
   -- nothing is stored in the first state
-  shows : (rack : ℕ) → shown thisEdition (bytesOfState (firstState racks)) rack ≡ Verdict.good (bytesOfState (firstState racks))
+  shows : (rack : ℕ) → shown this_edition (bytes_of_state (first_state racks)) rack ≡ Verdict.good (bytes_of_state (first_state racks))
   shows rack =
-      let total : totalStored (state_of racks (bytesOfState (firstState racks))) ≡ 0 = ap totalStored first_back ∙ total-firstState racks in
+      let total : total_stored (state_of racks (bytes_of_state (first_state racks))) ≡ 0 = ap total_stored first_back ∙ total-first_state racks in
       rw total
 
-  views-first : (rack : ℕ) → rack < racks → (viewed thisEdition (page_of s key) (firstBound key s) rack).number ≡ 0
+  views_first : (rack : ℕ) → rack < racks → (viewed this_edition (page_of s key) (first_bound key s) rack).number ≡ 0
   unfolding viewed
-  views-first rack inside =
-      let passed : looked thisEdition (page_of s key) (firstBound key s) rack ≡ Passed =
-      rw (eq-eqb _ _ (length-page s key w k), (first-stands key s k w).passes, lt-ltb rack racks inside) in
-      ap (λ v. (viewedBy thisEdition rack v).number) ((first-stands key s k w).views rack passed ∙ shows rack)
+  views_first rack inside =
+      let passed : looked this_edition (page_of s key) (first_bound key s) rack ≡ Passed =
+      rw (eq-eqb _ _ (length_page s key w k), (first_stands key s k w).passes, lt-ltb rack racks inside) in
+      ap (λ v. (viewed_by this_edition rack v).number) ((first_stands key s k w).views rack passed ∙ shows rack)
 
-  hands-back : (onDisk : List ℕ) → resumed thisEdition (page_of s key) (firstBound key s) onDisk ≡ Resumed.ram
+  hands_back : (on_disk : List ℕ) → resumed this_edition (page_of s key) (first_bound key s) on_disk ≡ Resumed.ram
   unfolding resumed
-  hands-back onDisk = ap (λ v. resumedBy (isGood v) (isGood (resumeVerdict thisEdition (page_of s key) onDisk))) (first-stands key s k w).resumes
+  hands_back on_disk = ap (λ v. resumed_by (is_good v) (is_good (resume_verdict this_edition (page_of s key) on_disk))) (first_stands key s k w).resumes
 
-  pub an-accepted-look : Bytes key → Bytes s → AcceptedLook key s
-  an-accepted-look kb sb =
-      let buffers = first-buffers key s k w kb sb s w sb in
+  pub an_accepted_look : Bytes key → Bytes s → AcceptedLook key s
+  an_accepted_look kb sb =
+      let buffers = first_buffers key s k w kb sb s w sb in
       record {
         page = page_of s key;
-        offered = firstBound key s;
+        offered = first_bound key s;
         buffers = (buffers.0, buffers.1);
-        keyIs = page-key s key w k;
-        summaryIs = (first_reads key s k w (page_of s key) (page-key s key w k)).summaryIs;
-        shown = views-first;
-        handedBack = hands-back;
+        key_is = page_key_lem s key w k;
+        summary_is = (first_reads key s k w (page_of s key) (page_key_lem s key w k)).summary_is;
+        shown = views_first;
+        handed_back = hands_back;
       }

@@ -6,10 +6,10 @@ use Prim.Native.Nat.{ℕ}
 use native.Mathlib.Omega.{arith}
 use mathlib.Core.List.{List, [], ◌∷◌, ◌++◌}
 use lib.ListN.{length}
-use Rattle.bindings.specs.Hashed.{summaryTag, bindingTag, summaryMessage}
-use Rattle.records.specs.Page.{hashSize}
+use Rattle.bindings.specs.Hashed.{summary_tag, binding_tag, summary_message}
+use Rattle.records.specs.Page.{hash_size}
 use Rattle.answers.specs.Design.{Design}
-use Rattle.answers.specs.Hashing.{stateHash, nextSummary, boundMessage, bindingOf}
+use Rattle.answers.specs.Hashing.{state_hash, next_summary, bound_message, binding_of}
 
 -- two lists with fronts of one length
 fronts : (a b c d : List ℕ) → length a ≡ length b → a ++ c ≡ b ++ d → (a ≡ b) × (c ≡ d)
@@ -23,24 +23,24 @@ fronts (x ∷ a) (y ∷ b) c d wide e =
     (cc, both.1)
 
 -- two messages of one tag, with a summary of 32 bytes in front
-parts : (tag : ℕ) (s t a b : List ℕ) → length s ≡ hashSize → length t ≡ hashSize → tag ∷ (s ++ a) ≡ tag ∷ (t ++ b) → (s ≡ t) × (a ≡ b)
+parts : (tag : ℕ) (s t a b : List ℕ) → length s ≡ hash_size → length t ≡ hash_size → tag ∷ (s ++ a) ≡ tag ∷ (t ++ b) → (s ≡ t) × (a ≡ b)
 parts tag s t a b p q e =
     let behind : s ++ a ≡ t ++ b = cc in
     fronts s t a b (omega arith) behind
 
-module _ (D : Design) (s t : List ℕ) (p : length s ≡ hashSize) (q : length t ≡ hashSize) where
+module _ (D : Design) (s t : List ℕ) (p : length s ≡ hash_size) (q : length t ≡ hash_size) where
   -- a binding is of one summary and one state hash
-  pub bindings-apart : (a b : List ℕ) → (D.hash (boundMessage D s a) ≡ D.hash (boundMessage D t b) → boundMessage D s a ≡ boundMessage D t b)
-      → bindingOf D s a ≡ bindingOf D t b → (s ≡ t) × (stateHash D a ≡ stateHash D b)
-  bindings-apart a b tells e = parts bindingTag s t (stateHash D a) (stateHash D b) p q (tells e)
+  pub bindings_apart : (a b : List ℕ) → (D.hash (bound_message D s a) ≡ D.hash (bound_message D t b) → bound_message D s a ≡ bound_message D t b)
+      → binding_of D s a ≡ binding_of D t b → (s ≡ t) × (state_hash D a ≡ state_hash D b)
+  bindings_apart a b tells e = parts binding_tag s t (state_hash D a) (state_hash D b) p q (tells e)
 
   -- a next summary is of one summary and one request
-  pub summaries-apart : (a b : List ℕ) → (D.hash (summaryMessage s a) ≡ D.hash (summaryMessage t b) → summaryMessage s a ≡ summaryMessage t b)
-      → nextSummary D s a ≡ nextSummary D t b → (s ≡ t) × (a ≡ b)
-  summaries-apart a b tells e = parts summaryTag s t a b p q (tells e)
+  pub summaries_apart : (a b : List ℕ) → (D.hash (summary_message s a) ≡ D.hash (summary_message t b) → summary_message s a ≡ summary_message t b)
+      → next_summary D s a ≡ next_summary D t b → (s ≡ t) × (a ≡ b)
+  summaries_apart a b tells e = parts summary_tag s t a b p q (tells e)
 
 -- a state hash is of one state, where different states are hashed as different messages
-pub states-apart : (D : Design) → ((a b : List ℕ) → D.stateMessage a ≡ D.stateMessage b → a ≡ b)
-    → (a b : List ℕ) → (D.hash (D.stateMessage a) ≡ D.hash (D.stateMessage b) → D.stateMessage a ≡ D.stateMessage b)
-    → stateHash D a ≡ stateHash D b → a ≡ b
-states-apart D messages a b tells e = messages a b (tells e)
+pub states_apart : (D : Design) → ((a b : List ℕ) → D.state_message a ≡ D.state_message b → a ≡ b)
+    → (a b : List ℕ) → (D.hash (D.state_message a) ≡ D.hash (D.state_message b) → D.state_message a ≡ D.state_message b)
+    → state_hash D a ≡ state_hash D b → a ≡ b
+states_apart D messages a b tells e = messages a b (tells e)

@@ -8,55 +8,55 @@ use borrow.Author.Tests.{eqb-true}
 use Rattle.records.specs.Form.{Form}
 use Rattle.records.specs.declared.Tested.{Tested}
 use Rattle.records.specs.declared.Tested.TheVariants.{Passed, Refused}
-use Rattle.records.specs.Page.{pageKey, page_of}
+use Rattle.records.specs.Page.{page_key, page_of}
 use Rattle.records.specs.Record.{summary}
 use Rattle.answers.specs.Design.{Design}
-use Rattle.answers.specs.Hashing.{nextSummary}
-use Rattle.answers.specs.Judging.{Verdict, repeatVerdict}
-use Rattle.answers.specs.Answers.{Performed, openTests, openedBy, opened, answeredBy, performed, repeated}
+use Rattle.answers.specs.Hashing.{next_summary}
+use Rattle.answers.specs.Judging.{Verdict, repeat_verdict}
+use Rattle.answers.specs.Answers.{Performed, open_tests, opened_by, opened, answered_by, performed, repeated}
 use Rattle.answers.specs.Edition.{design}
 use Rattle.answers.specs.Unchanged.{KeyStays}
-use Rattle.answers.proofs.Accepted.{perform-passed, perform-is}
-use Rattle.answers.proofs.Pages.{key-put, page-put}
-use Rattle.answers.proofs.Refusals.{refusals-change-nothing}
-use Rattle.answers.proofs.ReadsBack.{length-next}
+use Rattle.answers.proofs.Accepted.{perform_passed, perform_is}
+use Rattle.answers.proofs.Pages.{key_put, page_put}
+use Rattle.answers.proofs.Refusals.{refusals_change_nothing}
+use Rattle.answers.proofs.ReadsBack.{length_next}
 
 -- over any design, open and repeat leave the whole page
-open-leaves : (D : Design) (page answer : List ℕ) (t : Tested) → (openedBy D page answer t).page ≡ page
-open-leaves D page answer (Refused r) = refl
-open-leaves D page answer Passed = refl
+open_leaves : (D : Design) (page answer : List ℕ) (t : Tested) → (opened_by D page answer t).page ≡ page
+open_leaves D page answer (Refused r) = refl
+open_leaves D page answer Passed = refl
 
-repeat-leaves : (D : Design) (page l request answer : List ℕ) (v : Verdict) → (answeredBy D page l request answer page v).page ≡ page
-repeat-leaves D page l request answer (Verdict.early r) = refl
-repeat-leaves D page l request answer Verdict.forged = refl
-repeat-leaves D page l request answer Verdict.stale = refl
-repeat-leaves D page l request answer (Verdict.barred r) = refl
-repeat-leaves D page l request answer (Verdict.good state) = refl
+repeat_leaves : (D : Design) (page l request answer : List ℕ) (v : Verdict) → (answered_by D page l request answer page v).page ≡ page
+repeat_leaves D page l request answer (Verdict.early r) = refl
+repeat_leaves D page l request answer Verdict.forged = refl
+repeat_leaves D page l request answer Verdict.stale = refl
+repeat_leaves D page l request answer (Verdict.barred r) = refl
+repeat_leaves D page l request answer (Verdict.good state) = refl
 
-pub open-page : (D : Design) (page answer : List ℕ) → (opened D page answer).page ≡ page
+pub open_page : (D : Design) (page answer : List ℕ) → (opened D page answer).page ≡ page
 unfolding opened
-open-page D page answer = open-leaves D page answer (openTests D page answer)
+open_page D page answer = open_leaves D page answer (open_tests D page answer)
 
-pub repeat-page : (D : Design) (page l request answer : List ℕ) → (repeated D page l request answer).page ≡ page
+pub repeat_page : (D : Design) (page l request answer : List ℕ) → (repeated D page l request answer).page ≡ page
 unfolding repeated
-repeat-page D page l request answer = repeat-leaves D page l request answer (repeatVerdict D page l request answer)
+repeat_page D page l request answer = repeat_leaves D page l request answer (repeat_verdict D page l request answer)
 
-pub perform-key : (f : Form) (page l request answer : List ℕ) → pageKey (performed (design f) page l request answer).page ≡ pageKey page
-perform-key f page l request answer = by (ℕ_discrete (performed (design f) page l request answer).number 0)
+pub perform_key : (f : Form) (page l request answer : List ℕ) → page_key (performed (design f) page l request answer).page ≡ page_key page
+perform_key f page l request answer = by (ℕ_discrete (performed (design f) page l request answer).number 0)
   where
-    by : Dec ((performed (design f) page l request answer).number ≡ 0) → pageKey (performed (design f) page l request answer).page ≡ pageKey page
+    by : Dec ((performed (design f) page l request answer).number ≡ 0) → page_key (performed (design f) page l request answer).page ≡ page_key page
     by (yes accepted) =
-        let (state, p) = perform-passed (design f) page l request answer accepted in
-        ap (λ (p : Performed). pageKey p.page) (perform-is (design f) page l request answer state p)
-        ∙ key-put page (nextSummary (design f) (summary f l) request) (eqb-true _ _ p.right) (length-next f (summary f l) request)
-    by (no refused) = ap pageKey ((refusals-change-nothing (design f)).performs page l request answer refused).pageStays
+        let (state, p) = perform_passed (design f) page l request answer accepted in
+        ap (λ (p : Performed). page_key p.page) (perform_is (design f) page l request answer state p)
+        ∙ key_put page (next_summary (design f) (summary f l) request) (eqb-true _ _ p.right) (length_next f (summary f l) request)
+    by (no refused) = ap page_key ((refusals_change_nothing (design f)).performs page l request answer refused).page_stays
 
-perform-moves : (f : Form) (page l request answer : List ℕ) → (performed (design f) page l request answer).number ≡ 0
-    → (performed (design f) page l request answer).page ≡ page_of (nextSummary (design f) (summary f l) request) (pageKey page)
-perform-moves f page l request answer accepted =
-    let (state, p) = perform-passed (design f) page l request answer accepted in
-    ap (λ (p : Performed). p.page) (perform-is (design f) page l request answer state p)
-    ∙ page-put page (nextSummary (design f) (summary f l) request) (eqb-true _ _ p.right) (length-next f (summary f l) request)
+perform_moves : (f : Form) (page l request answer : List ℕ) → (performed (design f) page l request answer).number ≡ 0
+    → (performed (design f) page l request answer).page ≡ page_of (next_summary (design f) (summary f l) request) (page_key page)
+perform_moves f page l request answer accepted =
+    let (state, p) = perform_passed (design f) page l request answer accepted in
+    ap (λ (p : Performed). p.page) (perform_is (design f) page l request answer state p)
+    ∙ page_put page (next_summary (design f) (summary f l) request) (eqb-true _ _ p.right) (length_next f (summary f l) request)
 
-pub key-stays : (f : Form) → KeyStays f
-key-stays f = record { opens = open-page (design f); performs = perform-key f; repeats = repeat-page (design f); moves = perform-moves f }
+pub key_stays : (f : Form) → KeyStays f
+key_stays f = record { opens = open_page (design f); performs = perform_key f; repeats = repeat_page (design f); moves = perform_moves f }

@@ -9,15 +9,15 @@ use lib.ListN.{length}
 use lib.Dec.{leb}
 use borrow.Author.Tests.{leb-true, le-leb}
 use Rattle.numbers.specs.Comparing.{same}
-use Rattle.numbers.proofs.Comparison.{same-iff}
+use Rattle.numbers.proofs.Comparison.{same_iff}
 use Rattle.refusals.specs.declared.Refusal.{Refusal}
 use Rattle.refusals.specs.declared.Refusal.TheVariants.{Page, Answer, Request, Fresh}
 use Rattle.records.specs.declared.Tested.{Tested}
 use Rattle.records.specs.declared.Tested.TheVariants.{Passed, Refused}
-use Rattle.records.specs.Page.{zeroSummary}
+use Rattle.records.specs.Page.{zero_summary}
 use Rattle.answers.specs.Design.{Design}
 use Rattle.answers.specs.Judging.{unless, and_then, offered}
-use Rattle.answers.specs.Answers.{openTests}
+use Rattle.answers.specs.Answers.{open_tests}
 
 -- one test after another that pass: both pass
 both : (t u : Tested) → and_then t u ≡ Passed → (t ≡ Passed) × (u ≡ Passed)
@@ -32,20 +32,20 @@ holds false r e = let z : ◌≡◌ {A = ℕ} 0 1 = cc in absurd (omega arith)
 -- ---- perform and repeat
 
 pub record Offer (D : Design) (page l request answer : List ℕ) : Type 0 where
-  pub right : D.rightPage page ≡ true
-  pub room : D.recordSize ≤ length answer
+  pub right : D.right_page page ≡ true
+  pub room : D.record_size ≤ length answer
   pub tests : D.tested l ≡ Passed
   pub formed : D.formed request ≡ true
 
 module _ (D : Design) (page l request answer : List ℕ) where
   pub offer : offered D page l request answer ≡ Passed → Offer D page l request answer
   offer e =
-      let first = both (unless (D.rightPage page) Page) _ e in
-      let second = both (unless (leb D.recordSize (length answer)) Answer) _ first.1 in
+      let first = both (unless (D.right_page page) Page) _ e in
+      let second = both (unless (leb D.record_size (length answer)) Answer) _ first.1 in
       let third = both (D.tested l) (unless (D.formed request) Request) second.1 in
       record {
-        right = holds (D.rightPage page) Page first.0;
-        room = leb-true _ _ (holds (leb D.recordSize (length answer)) Answer second.0);
+        right = holds (D.right_page page) Page first.0;
+        room = leb-true _ _ (holds (leb D.record_size (length answer)) Answer second.0);
         tests = third.0;
         formed = holds (D.formed request) Request third.1;
       }
@@ -56,22 +56,22 @@ module _ (D : Design) (page l request answer : List ℕ) where
 -- ---- open
 
 pub record Opening (D : Design) (page answer : List ℕ) : Type 0 where
-  pub right : D.rightPage page ≡ true
-  pub room : D.recordSize ≤ length answer
-  pub fresh : D.pageSummary page ≡ zeroSummary
+  pub right : D.right_page page ≡ true
+  pub room : D.record_size ≤ length answer
+  pub fresh : D.page_summary page ≡ zero_summary
 
 module _ (D : Design) (page answer : List ℕ) where
-  pub opening : openTests D page answer ≡ Passed → Opening D page answer
-  unfolding openTests
+  pub opening : open_tests D page answer ≡ Passed → Opening D page answer
+  unfolding open_tests
   opening e =
-      let first = both (unless (D.rightPage page) Page) _ e in
-      let second = both (unless (leb D.recordSize (length answer)) Answer) _ first.1 in
+      let first = both (unless (D.right_page page) Page) _ e in
+      let second = both (unless (leb D.record_size (length answer)) Answer) _ first.1 in
       record {
-        right = holds (D.rightPage page) Page first.0;
-        room = leb-true _ _ (holds (leb D.recordSize (length answer)) Answer second.0);
-        fresh = (same-iff (D.pageSummary page) zeroSummary).0 (holds (same (D.pageSummary page) zeroSummary) Fresh second.1);
+        right = holds (D.right_page page) Page first.0;
+        room = leb-true _ _ (holds (leb D.record_size (length answer)) Answer second.0);
+        fresh = (same_iff (D.page_summary page) zero_summary).0 (holds (same (D.page_summary page) zero_summary) Fresh second.1);
       }
 
-  pub open-passes : Opening D page answer → openTests D page answer ≡ Passed
-  unfolding openTests
-  open-passes o = rw (o.right, le-leb _ _ o.room, (same-iff (D.pageSummary page) zeroSummary).1 o.fresh)
+  pub open_passes : Opening D page answer → open_tests D page answer ≡ Passed
+  unfolding open_tests
+  open_passes o = rw (o.right, le-leb _ _ o.room, (same_iff (D.page_summary page) zero_summary).1 o.fresh)

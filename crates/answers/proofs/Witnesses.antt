@@ -6,58 +6,58 @@ use Prim.Native.Nat.{ℕ, ◌-◌}
 use mathlib.Core.List.{List}
 use lib.ListN.{length, set}
 use borrow.Author.Tests.{eq-eqb}
-use Rattle.numbers.specs.Numbers.{beFrom, be, bytes_of}
+use Rattle.numbers.specs.Numbers.{be_from, be, bytes_of}
 use Rattle.numbers.specs.Parts.{part}
-use Rattle.racks.specs.Racks.{State, firstState, emptyRack}
-use Rattle.racks.specs.Layout.{state_of, bytesOfState}
+use Rattle.racks.specs.Racks.{State, first_state, empty_rack}
+use Rattle.racks.specs.Layout.{state_of, bytes_of_state}
 use Rattle.racks.specs.Edition.{racks}
-use Rattle.racks.proofs.StateBytes.{stateOf-bytesOfState}
-use Rattle.racks.proofs.StateRule.{fits-at}
-use Rattle.racks.proofs.FirstState.{length-firstState, good-firstState}
-use Rattle.requests.specs.Layout.{bytesOfRequest}
-use Rattle.requests.specs.Formed.{rightForm, rightOther, rightAmount, wellFormed}
-use Rattle.requests.specs.Requests.{requestBy, requestOf, readRequest}
-use Rattle.rules.specs.Rules.{withCapacity, overCapacity, overStored, overLimit, ruling, carryOut}
+use Rattle.racks.proofs.StateBytes.{state_of-bytes_of_state}
+use Rattle.racks.proofs.StateRule.{fits_at}
+use Rattle.racks.proofs.FirstState.{length-first_state, good_first_state}
+use Rattle.requests.specs.Layout.{bytes_of_request}
+use Rattle.requests.specs.Formed.{right_form, right_other, right_amount, well_formed}
+use Rattle.requests.specs.Requests.{request_by, request_of, read_request}
+use Rattle.rules.specs.Rules.{with_capacity, over_capacity, over_stored, over_limit, ruling, carry_out}
 use Rattle.rules.specs.Replay.{Booked, book}
 use Rattle.records.specs.Form.{Form}
-use Rattle.records.specs.Page.{hashSize, page_of}
+use Rattle.records.specs.Page.{hash_size, page_of}
 use Rattle.records.proofs.FormLaws.{Fits}
-use Rattle.records.proofs.PageBytes.{page-summary, length-page}
+use Rattle.records.proofs.PageBytes.{page_summary_lem, length_page}
 use Rattle.answers.specs.Design.{Served}
-use Rattle.answers.specs.Hashing.{boundRecord}
-use Rattle.answers.specs.Edition.{design, inBytes, servedBytes}
+use Rattle.answers.specs.Hashing.{bound_record}
+use Rattle.answers.specs.Edition.{design, in_bytes, served_bytes}
 use Rattle.answers.specs.Written.{Stands}
 use Rattle.answers.proofs.States.{GoodBytes}
 use Rattle.answers.proofs.Records.{bound-reads, bound-passes}
 use Rattle.answers.proofs.Standing.{stands}
 
 -- ---- for every key, summary and good state there is a record, current on the page that holds the summary
-pub a-current-record : (f : Form) → Fits f → (key s state : List ℕ) → length key ≡ hashSize → length s ≡ hashSize → GoodBytes f.racks state
-    → Stands (design f) (page_of s key) (boundRecord (design f) (page_of s key) s state) state
-a-current-record f fits key s state k w good =
-    stands (design f) (page_of s key) _ state s (eq-eqb _ _ (length-page s key w k))
+pub a_current_record : (f : Form) → Fits f → (key s state : List ℕ) → length key ≡ hash_size → length s ≡ hash_size → GoodBytes f.racks state
+    → Stands (design f) (page_of s key) (bound_record (design f) (page_of s key) s state) state
+a_current_record f fits key s state k w good =
+    stands (design f) (page_of s key) _ state s (eq-eqb _ _ (length_page s key w k))
     (bound-passes f (page_of s key) s state w good.size fits good.good)
-    (bound-reads f (page_of s key) s state w good.size (page_of s key) refl) (page-summary s key w k)
+    (bound-reads f (page_of s key) s state w good.size (page_of s key) refl) (page_summary_lem s key w k)
 
 -- ---- the request: rack 0's capacity becomes 5
 
 abbrev pub asked : List ℕ
-asked = bytesOfRequest 1 0 0 5
+asked = bytes_of_request 1 0 0 5
 
 abbrev pub afterwards : State
-afterwards = set (firstState racks) 0 (withCapacity 5 emptyRack)
+afterwards = set (first_state racks) 0 (with_capacity 5 empty_rack)
 
-pub asked-formed : wellFormed racks asked ≡ true
-unfolding beFrom be bytes_of part bytesOfRequest rightForm rightOther rightAmount wellFormed
-asked-formed = refl
+pub asked_formed : well_formed racks asked ≡ true
+unfolding be_from be bytes_of part bytes_of_request right_form right_other right_amount well_formed
+asked_formed = refl
 
-booked-first : book racks (firstState racks) asked ≡ Booked.booked afterwards
-unfolding beFrom be bytes_of part firstState bytesOfRequest rightForm rightOther rightAmount wellFormed requestBy requestOf readRequest overCapacity overStored overLimit ruling carryOut book
-booked-first = refl
+booked_first : book racks (first_state racks) asked ≡ Booked.booked afterwards
+unfolding be_from be bytes_of part first_state bytes_of_request right_form right_other right_amount well_formed request_by request_of read_request over_capacity over_stored over_limit ruling carry_out book
+booked_first = refl
 
-pub first_back : state_of racks (bytesOfState (firstState racks)) ≡ firstState racks
-first_back = stateOf-bytesOfState racks (firstState racks) (length-firstState racks) (λ i. fits-at (firstState racks) i (good-firstState racks))
+pub first_back : state_of racks (bytes_of_state (first_state racks)) ≡ first_state racks
+first_back = state_of-bytes_of_state racks (first_state racks) (length-first_state racks) (λ i. fits_at (first_state racks) i (good_first_state racks))
 
-pub served-first : servedBytes racks (bytesOfState (firstState racks)) asked ≡ Served.carried (bytesOfState afterwards)
-unfolding servedBytes
-served-first = ap (λ (s : State). inBytes (book racks s asked)) first_back ∙ ap inBytes booked-first
+pub served_first : served_bytes racks (bytes_of_state (first_state racks)) asked ≡ Served.carried (bytes_of_state afterwards)
+unfolding served_bytes
+served_first = ap (λ (s : State). in_bytes (book racks s asked)) first_back ∙ ap in_bytes booked_first

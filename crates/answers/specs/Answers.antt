@@ -8,10 +8,10 @@ use Rattle.refusals.specs.declared.Refusal.TheVariants.{Page, Answer, Fresh}
 use Rattle.refusals.specs.Numbers.{number_of}
 use Rattle.records.specs.declared.Tested.{Tested}
 use Rattle.records.specs.declared.Tested.TheVariants.{Passed, Refused}
-use Rattle.records.specs.Page.{zeroSummary}
+use Rattle.records.specs.Page.{zero_summary}
 use Rattle.answers.specs.Design.{Design, Figures}
-use Rattle.answers.specs.Hashing.{nextSummary, boundRecord}
-use Rattle.answers.specs.Judging.{unless, and_then, Verdict, number, performVerdict, repeatVerdict, viewVerdict, resumeVerdict}
+use Rattle.answers.specs.Hashing.{next_summary, bound_record}
+use Rattle.answers.specs.Judging.{unless, and_then, Verdict, number, perform_verdict, repeat_verdict, view_verdict, resume_verdict}
 
 -- ---- open
 
@@ -22,19 +22,19 @@ pub record Outcome : Type 0 where
   pub answer : List ℕ
 
 -- tests 1, 2 and 13
-unfoldable pub openTests : Design → List ℕ → List ℕ → Tested
-openTests D page answer =
-    and_then (unless (D.rightPage page) Page)
-    (and_then (unless (leb D.recordSize (length answer)) Answer)
-    (unless (same (D.pageSummary page) zeroSummary) Fresh))
+unfoldable pub open_tests : Design → List ℕ → List ℕ → Tested
+open_tests D page answer =
+    and_then (unless (D.right_page page) Page)
+    (and_then (unless (leb D.record_size (length answer)) Answer)
+    (unless (same (D.page_summary page) zero_summary) Fresh))
 
 -- the first record, with summary zero and its authenticator; the page stays as it is
-abbrev pub openedBy : Design → List ℕ → List ℕ → Tested → Outcome
-openedBy D page answer (Refused r) = record { number = number_of r; page = page; answer = answer }
-openedBy D page answer Passed = record { number = 0; page = page; answer = over 0 (boundRecord D page zeroSummary D.firstBytes) answer }
+abbrev pub opened_by : Design → List ℕ → List ℕ → Tested → Outcome
+opened_by D page answer (Refused r) = record { number = number_of r; page = page; answer = answer }
+opened_by D page answer Passed = record { number = 0; page = page; answer = over 0 (bound_record D page zero_summary D.first_bytes) answer }
 
 unfoldable pub opened : Design → List ℕ → List ℕ → Outcome
-opened D page answer = openedBy D page answer (openTests D page answer)
+opened D page answer = opened_by D page answer (open_tests D page answer)
 
 -- ---- perform and repeat
 
@@ -49,26 +49,26 @@ abbrev pub refusal : ℕ → List ℕ → List ℕ → Performed
 refusal k page answer = record { number = k; stored = 0; page = page; answer = answer }
 
 -- the record that a request leads to from a record, its state being given: that state bound to the next summary
-abbrev pub nextRecord : Design → List ℕ → List ℕ → List ℕ → List ℕ → List ℕ
-nextRecord D page l request state = boundRecord D page (nextSummary D (D.summary l) request) state
+abbrev pub next_record : Design → List ℕ → List ℕ → List ℕ → List ℕ → List ℕ
+next_record D page l request state = bound_record D page (next_summary D (D.summary l) request) state
 
 -- a good record: the next one is written to the front of the answer, and the page becomes `after`
-abbrev pub answeredBy : Design → List ℕ → List ℕ → List ℕ → List ℕ → List ℕ → Verdict → Performed
-answeredBy D page l request answer after (Verdict.good state) =
-    record { number = 0; stored = D.storedAfter state request; page = after; answer = over 0 (nextRecord D page l request state) answer }
-answeredBy D page l request answer after (Verdict.early r) = refusal (number (Verdict.early r)) page answer
-answeredBy D page l request answer after Verdict.forged = refusal (number Verdict.forged) page answer
-answeredBy D page l request answer after Verdict.stale = refusal (number Verdict.stale) page answer
-answeredBy D page l request answer after (Verdict.barred r) = refusal (number (Verdict.barred r)) page answer
+abbrev pub answered_by : Design → List ℕ → List ℕ → List ℕ → List ℕ → List ℕ → Verdict → Performed
+answered_by D page l request answer after (Verdict.good state) =
+    record { number = 0; stored = D.stored_after state request; page = after; answer = over 0 (next_record D page l request state) answer }
+answered_by D page l request answer after (Verdict.early r) = refusal (number (Verdict.early r)) page answer
+answered_by D page l request answer after Verdict.forged = refusal (number Verdict.forged) page answer
+answered_by D page l request answer after Verdict.stale = refusal (number Verdict.stale) page answer
+answered_by D page l request answer after (Verdict.barred r) = refusal (number (Verdict.barred r)) page answer
 
 -- perform puts the next summary in the page
 unfoldable pub performed : Design → List ℕ → List ℕ → List ℕ → List ℕ → Performed
 performed D page l request answer =
-    answeredBy D page l request answer (D.withSummary page (nextSummary D (D.summary l) request)) (performVerdict D page l request answer)
+    answered_by D page l request answer (D.with_summary page (next_summary D (D.summary l) request)) (perform_verdict D page l request answer)
 
 -- repeat leaves the page as it is
 unfoldable pub repeated : Design → List ℕ → List ℕ → List ℕ → List ℕ → Performed
-repeated D page l request answer = answeredBy D page l request answer page (repeatVerdict D page l request answer)
+repeated D page l request answer = answered_by D page l request answer page (repeat_verdict D page l request answer)
 
 -- ---- view
 
@@ -76,18 +76,18 @@ pub record Viewed : Type 0 where
   pub number : ℕ
   pub figures : Figures
 
-abbrev pub noFigures : Figures
-noFigures = record { stored = 0; capacity = 0; percent = 0; total = 0 }
+abbrev pub no_figures : Figures
+no_figures = record { stored = 0; capacity = 0; percent = 0; total = 0 }
 
-abbrev pub viewedBy : Design → ℕ → Verdict → Viewed
-viewedBy D rack (Verdict.good state) = record { number = 0; figures = D.figures state rack }
-viewedBy D rack (Verdict.early r) = record { number = number (Verdict.early r); figures = noFigures }
-viewedBy D rack Verdict.forged = record { number = number Verdict.forged; figures = noFigures }
-viewedBy D rack Verdict.stale = record { number = number Verdict.stale; figures = noFigures }
-viewedBy D rack (Verdict.barred r) = record { number = number (Verdict.barred r); figures = noFigures }
+abbrev pub viewed_by : Design → ℕ → Verdict → Viewed
+viewed_by D rack (Verdict.good state) = record { number = 0; figures = D.figures state rack }
+viewed_by D rack (Verdict.early r) = record { number = number (Verdict.early r); figures = no_figures }
+viewed_by D rack Verdict.forged = record { number = number Verdict.forged; figures = no_figures }
+viewed_by D rack Verdict.stale = record { number = number Verdict.stale; figures = no_figures }
+viewed_by D rack (Verdict.barred r) = record { number = number (Verdict.barred r); figures = no_figures }
 
 unfoldable pub viewed : Design → List ℕ → List ℕ → ℕ → Viewed
-viewed D page l rack = viewedBy D rack (viewVerdict D page l rack)
+viewed D page l rack = viewed_by D rack (view_verdict D page l rack)
 
 -- ---- resume
 
@@ -98,23 +98,23 @@ pub data Resumed : Type 0 where
   disk : Resumed
 
 -- 01's numbers for them
-abbrev pub resumedNumber : Resumed → ℕ
-resumedNumber Resumed.neither = 0
-resumedNumber Resumed.ram = 1
-resumedNumber Resumed.disk = 2
+abbrev pub resumed_number : Resumed → ℕ
+resumed_number Resumed.neither = 0
+resumed_number Resumed.ram = 1
+resumed_number Resumed.disk = 2
 
-abbrev pub isGood : Verdict → Bool
-isGood (Verdict.good state) = true
-isGood (Verdict.early r) = false
-isGood Verdict.forged = false
-isGood Verdict.stale = false
-isGood (Verdict.barred r) = false
+abbrev pub is_good : Verdict → Bool
+is_good (Verdict.good state) = true
+is_good (Verdict.early r) = false
+is_good Verdict.forged = false
+is_good Verdict.stale = false
+is_good (Verdict.barred r) = false
 
 -- if both are current it is the RAM one; the disk one counts only where RAM's is not current
-abbrev pub resumedBy : Bool → Bool → Resumed
-resumedBy true d = Resumed.ram
-resumedBy false true = Resumed.disk
-resumedBy false false = Resumed.neither
+abbrev pub resumed_by : Bool → Bool → Resumed
+resumed_by true d = Resumed.ram
+resumed_by false true = Resumed.disk
+resumed_by false false = Resumed.neither
 
 unfoldable pub resumed : Design → List ℕ → List ℕ → List ℕ → Resumed
-resumed D page inRam onDisk = resumedBy (isGood (resumeVerdict D page inRam)) (isGood (resumeVerdict D page onDisk))
+resumed D page in_ram on_disk = resumed_by (is_good (resume_verdict D page in_ram)) (is_good (resume_verdict D page on_disk))

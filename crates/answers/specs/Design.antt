@@ -20,25 +20,25 @@ pub record Figures : Type 0 where
 pub record Design : Type 0 where
   -- the hash of a message, and what is hashed of a state's bytes
   pub hash : List ℕ → List ℕ
-  pub stateMessage : List ℕ → List ℕ
+  pub state_message : List ℕ → List ℕ
   -- a page: whether its size is right, its summary, itself with another summary, and the MAC of a binding under its key
-  pub rightPage : List ℕ → Bool
-  pub pageSummary : List ℕ → List ℕ
-  pub withSummary : List ℕ → List ℕ → List ℕ
+  pub right_page : List ℕ → Bool
+  pub page_summary : List ℕ → List ℕ
+  pub with_summary : List ℕ → List ℕ → List ℕ
   pub mac : List ℕ → List ℕ → List ℕ
   -- a record: its size, the tests 3, 4 and 5, its three parts, and a record from three parts
-  pub recordSize : ℕ
+  pub record_size : ℕ
   pub tested : List ℕ → Tested
-  pub stateBytes : List ℕ → List ℕ
+  pub state_bytes : List ℕ → List ℕ
   pub summary : List ℕ → List ℕ
   pub authenticator : List ℕ → List ℕ
-  pub recordOf : List ℕ → List ℕ → List ℕ → List ℕ
+  pub record_of : List ℕ → List ℕ → List ℕ → List ℕ
   -- a request: whether it is well formed
   pub formed : List ℕ → Bool
   -- the service: the first state's bytes; what it makes of a request; what is stored, after it, in the rack that it names
-  pub firstBytes : List ℕ
+  pub first_bytes : List ℕ
   pub served : List ℕ → List ℕ → Served
-  pub storedAfter : List ℕ → List ℕ → ℕ
+  pub stored_after : List ℕ → List ℕ → ℕ
   -- view: how many racks there are, and the figures of a state's bytes at a rack
   pub racks : ℕ
   pub figures : List ℕ → ℕ → Figures

@@ -1,33 +1,33 @@
 -- A row of requests, in order: the summary that it leads to from a summary, the messages hashed on the way, and what the service makes of
 -- it; and where a row starts. Open answers from the start along no request, perform and repeat from a record along one. Assumes nothing.
 use Rattle.std.specs.Prelude.{ℕ, List, [], ◌∷◌}
-use Rattle.records.specs.Page.{zeroSummary}
-use Rattle.bindings.specs.Hashed.{summaryMessage}
+use Rattle.records.specs.Page.{zero_summary}
+use Rattle.bindings.specs.Hashed.{summary_message}
 use Rattle.answers.specs.Design.{Design, Served}
-use Rattle.answers.specs.Hashing.{nextSummary}
+use Rattle.answers.specs.Hashing.{next_summary}
 
 -- ---- along a row
 
-abbrev pub summaryAlong : Design → List ℕ → List (List ℕ) → List ℕ
-summaryAlong D summary [] = summary
-summaryAlong D summary (request ∷ row) = summaryAlong D (nextSummary D summary request) row
+abbrev pub summary_along : Design → List ℕ → List (List ℕ) → List ℕ
+summary_along D summary [] = summary
+summary_along D summary (request ∷ row) = summary_along D (next_summary D summary request) row
 
-abbrev pub messagesAlong : Design → List ℕ → List (List ℕ) → List (List ℕ)
-messagesAlong D summary [] = []
-messagesAlong D summary (request ∷ row) = summaryMessage summary request ∷ messagesAlong D (nextSummary D summary request) row
+abbrev pub messages_along : Design → List ℕ → List (List ℕ) → List (List ℕ)
+messages_along D summary [] = []
+messages_along D summary (request ∷ row) = summary_message summary request ∷ messages_along D (next_summary D summary request) row
 
 -- one request more; what is barred stays barred
-abbrev pub thenServed : Design → List ℕ → Served → Served
-thenServed D request (Served.carried state) = D.served state request
-thenServed D request (Served.barred r) = Served.barred r
+abbrev pub then_served : Design → List ℕ → Served → Served
+then_served D request (Served.carried state) = D.served state request
+then_served D request (Served.barred r) = Served.barred r
 
-abbrev pub servedAlong : Design → Served → List (List ℕ) → Served
-servedAlong D served [] = served
-servedAlong D served (request ∷ row) = servedAlong D (thenServed D request served) row
+abbrev pub served_along : Design → Served → List (List ℕ) → Served
+served_along D served [] = served
+served_along D served (request ∷ row) = served_along D (then_served D request served) row
 
 -- what the service gives for requests, in order, from the first state
 abbrev pub replayed : Design → List (List ℕ) → Served
-replayed D requests = servedAlong D (Served.carried D.firstBytes) requests
+replayed D requests = served_along D (Served.carried D.first_bytes) requests
 
 -- ---- where a row starts: at the first state with summary zero, or at a record
 
@@ -35,10 +35,10 @@ pub data Origin : Type 0 where
   start : Origin
   from : List ℕ → Origin
 
-abbrev pub originSummary : Design → Origin → List ℕ
-originSummary D Origin.start = zeroSummary
-originSummary D (Origin.from l) = D.summary l
+abbrev pub origin_summary : Design → Origin → List ℕ
+origin_summary D Origin.start = zero_summary
+origin_summary D (Origin.from l) = D.summary l
 
-abbrev pub originState : Design → Origin → List ℕ
-originState D Origin.start = D.firstBytes
-originState D (Origin.from l) = D.stateBytes l
+abbrev pub origin_state : Design → Origin → List ℕ
+origin_state D Origin.start = D.first_bytes
+origin_state D (Origin.from l) = D.state_bytes l

@@ -3,26 +3,26 @@ use mathlib.Core.Path.{◌≡◌}
 use Prim.Native.Nat.{ℕ}
 use mathlib.Core.List.{List, ◌++◌}
 use lib.ListN.{length}
-use Rattle.sha256.specs.Continued.{sha256After}
+use Rattle.sha256.specs.Continued.{sha256_after}
 use Rattle.sha256.proofs.DigestLaws.{length-digest, length-sha256}
 use Rattle.hmac.specs.Hmac.{hmac}
 use Rattle.hmac.specs.declared.Prepared.{Prepared}
-use Rattle.hmac.specs.Preparation.{preparedOf, macOf}
-use Rattle.hmac.proofs.Macs.{mac-prepared}
-use Rattle.bindings.specs.Hashed.{summaryMessage, nextSummary, authenticatorOf}
+use Rattle.hmac.specs.Preparation.{prepared_of, mac_of}
+use Rattle.hmac.proofs.Macs.{mac_prepared}
+use Rattle.bindings.specs.Hashed.{summary_message, next_summary, authenticator_of}
 
-pub length-nextSummary : (summary request : List ℕ) → length (nextSummary summary request) ≡ 32
-unfolding nextSummary
-length-nextSummary summary request = length-sha256 (summaryMessage summary request)
+pub length-next_summary : (summary request : List ℕ) → length (next_summary summary request) ≡ 32
+unfolding next_summary
+length-next_summary summary request = length-sha256 (summary_message summary request)
 
-pub length-mac : (key : Prepared) (text : List ℕ) → length (macOf key text) ≡ 32
-unfolding macOf sha256After
+pub length-mac : (key : Prepared) (text : List ℕ) → length (mac_of key text) ≡ 32
+unfolding mac_of sha256_after
 length-mac key text = length-digest _ 8
 
-pub length-authenticator : (key prefix bound : List ℕ) → length (authenticatorOf key prefix bound) ≡ 32
-unfolding authenticatorOf hmac
-length-authenticator key prefix bound = length-sha256 _
+pub length_authenticator : (key prefix bound : List ℕ) → length (authenticator_of key prefix bound) ≡ 32
+unfolding authenticator_of hmac
+length_authenticator key prefix bound = length-sha256 _
 
-pub authenticator-prepared : (key prefix bound : List ℕ) → macOf (preparedOf key) (prefix ++ bound) ≡ authenticatorOf key prefix bound
-unfolding authenticatorOf
-authenticator-prepared key prefix bound = mac-prepared key (prefix ++ bound)
+pub authenticator_prepared : (key prefix bound : List ℕ) → mac_of (prepared_of key) (prefix ++ bound) ≡ authenticator_of key prefix bound
+unfolding authenticator_of
+authenticator_prepared key prefix bound = mac_prepared key (prefix ++ bound)

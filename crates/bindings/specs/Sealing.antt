@@ -2,20 +2,20 @@
 use Rattle.std.specs.Prelude.{ℕ, ◌+◌, List}
 use Rattle.numbers.specs.Parts.{over}
 use Rattle.records.specs.Form.{Form}
-use Rattle.records.specs.Page.{hashSize}
-use Rattle.records.specs.Record.{stateSize, stateBytes, summary, recordOf}
+use Rattle.records.specs.Page.{hash_size}
+use Rattle.records.specs.Record.{state_size, state_bytes, summary, record_of}
 use Rattle.hmac.specs.declared.Prepared.{Prepared}
-use Rattle.hmac.specs.Preparation.{macOf}
-use Rattle.bindings.specs.Hashed.{bindingOf}
+use Rattle.hmac.specs.Preparation.{mac_of}
+use Rattle.bindings.specs.Hashed.{binding_of}
 
 -- the authenticator that the state and the summary in l call for
-abbrev pub ownAuthenticator : Form → Prepared → List ℕ → List ℕ
-ownAuthenticator f key l = macOf key (bindingOf f (summary f l) (stateBytes f l))
+abbrev pub own_authenticator : Form → Prepared → List ℕ → List ℕ
+own_authenticator f key l = mac_of key (binding_of f (summary f l) (state_bytes f l))
 
 -- l with that authenticator laid in its place
 unfoldable pub sealed : Form → Prepared → List ℕ → List ℕ
-sealed f key l = over (3 + stateSize f + hashSize) (ownAuthenticator f key l) l
+sealed f key l = over (3 + state_size f + hash_size) (own_authenticator f key l) l
 
 -- the record that binds a state to a summary
-abbrev pub sealedRecord : Form → Prepared → List ℕ → List ℕ → List ℕ
-sealedRecord f key summary state = recordOf f state summary (macOf key (bindingOf f summary state))
+abbrev pub sealed_record : Form → Prepared → List ℕ → List ℕ → List ℕ
+sealed_record f key summary state = record_of f state summary (mac_of key (binding_of f summary state))

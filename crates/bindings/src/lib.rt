@@ -4,7 +4,7 @@ mod sealing;
 
 ghost use Rattle.std.specs.Prelude.{◌≡◌, ◌+◌, ◌≤◌, length};
 ghost use Rattle.records.specs.Form.{form_of};
-ghost use Rattle.bindings.specs.Hashed.{stateHash, nextSummary, binding};
+ghost use Rattle.bindings.specs.Hashed.{state_hash, next_summary, binding};
 
 use records::{Form, tag_of};
 pub use sealing::{authenticator_of, lay, prepared, seal};
@@ -13,7 +13,7 @@ use sha256::sha256;
 // The hash of a state of a form.
 pub(crate) fn state_hash(state: &[u8], form: Form) -> [u8; 32]
     requires { length state.now ≤ 65535 }
-    ensures { result ≡ stateHash (form_of form) state.now }
+    ensures { result ≡ state_hash (form_of form) state.now }
 {
     let tag = [tag_of(form)];
     sha256(&tag, state, &state[..0])
@@ -22,7 +22,7 @@ pub(crate) fn state_hash(state: &[u8], form: Form) -> [u8; 32]
 // The summary of a history that one more request ends.
 pub fn next_summary(summary: &[u8], request: &[u8]) -> [u8; 32]
     requires { length summary.now + length request.now ≤ 65535 }
-    ensures { result ≡ nextSummary summary.now request.now }
+    ensures { result ≡ next_summary summary.now request.now }
 {
     let tag = [0x02u8];
     sha256(&tag, summary, request)

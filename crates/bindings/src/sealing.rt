@@ -3,11 +3,11 @@
 ghost use Rattle.std.specs.Prelude.{◌≡◌, [], ◌∷◌, ◌+◌, ◌≤◌, length};
 ghost use Rattle.numbers.specs.Parts.{over, join};
 ghost use Rattle.records.specs.Form.{form_of};
-ghost use Rattle.records.specs.Page.{pageSize, pageKey};
-ghost use Rattle.records.specs.Record.{recordSize, stateBytes, summary};
-ghost use Rattle.hmac.specs.Preparation.{halves, preparedOf};
-ghost use Rattle.bindings.specs.Hashed.{bindingOf};
-ghost use Rattle.bindings.specs.Sealing.{ownAuthenticator, sealed};
+ghost use Rattle.records.specs.Page.{page_size, page_key};
+ghost use Rattle.records.specs.Record.{record_size, state_bytes, summary};
+ghost use Rattle.hmac.specs.Preparation.{halves, prepared_of};
+ghost use Rattle.bindings.specs.Hashed.{binding_of};
+ghost use Rattle.bindings.specs.Sealing.{own_authenticator, sealed};
 
 use crate::{binding, state_hash};
 use hmac::{Prepared, mac, prepare};
@@ -16,16 +16,16 @@ use records::{Form, HASH_SIZE, page_key, record_size, state_part, summary_part};
 
 // What a page's key comes to.
 pub fn prepared(page: &[u8]) -> Prepared
-    requires { length page.now ≡ pageSize }
-    ensures { result ≡ preparedOf (pageKey page.now) }
+    requires { length page.now ≡ page_size }
+    ensures { result ≡ prepared_of (page_key page.now) }
 {
     prepare(page_key(page))
 }
 
 // The binding of a record's own state to its own summary. The state's hash is gone from the stack when this returns.
 fn binding_in(record: &[u8], form: Form) -> [u8; 32]
-    requires { length «record».now ≡ recordSize (form_of form) }
-    ensures { result ≡ bindingOf (form_of form) (summary (form_of form) «record».now) (stateBytes (form_of form) «record».now) }
+    requires { length «record».now ≡ record_size (form_of form) }
+    ensures { result ≡ binding_of (form_of form) (summary (form_of form) «record».now) (state_bytes (form_of form) «record».now) }
 {
     let summary = summary_part(record, form);
     let state = state_part(record, form);
@@ -40,8 +40,8 @@ pub fn authenticator_of<'a>(
     record: &[u8],
     form: Form,
 ) -> [u8; 32]
-    requires { length «record».now ≡ recordSize (form_of form) }
-    ensures { result ≡ ownAuthenticator (form_of form) (halves inner.now outer.now) «record».now }
+    requires { length «record».now ≡ record_size (form_of form) }
+    ensures { result ≡ own_authenticator (form_of form) (halves inner.now outer.now) «record».now }
 {
     let bound = binding_in(record, form);
     mac(inner, outer, &record[..0], &bound)
@@ -61,7 +61,7 @@ pub fn lay(answer: &mut [u8], header: &[u8], state: &[u8], summary: &[u8])
 
 // Lays the authenticator of the state and the summary that lie in an answer behind them.
 pub fn seal<'a>(answer: &mut [u8], inner: &'a [u32; 8], outer: &'a [u32; 8], form: Form)
-    requires { recordSize (form_of form) ≤ length answer.old }
+    requires { record_size (form_of form) ≤ length answer.old }
     ensures { answer.new ≡ sealed (form_of form) (halves inner.now outer.now) answer.old }
 {
     let size = record_size(form);

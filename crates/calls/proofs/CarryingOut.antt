@@ -6,33 +6,33 @@ use native.Mathlib.Nat.{mul-div_cancel}
 use mathlib.Core.List.{List}
 use lib.ListN.{length}
 use lib.Dec.{lit<}
-use Rattle.racks.specs.Layout.{rackSize, state_of}
+use Rattle.racks.specs.Layout.{rack_size, state_of}
 use Rattle.requests.specs.declared.Request.{Request}
 use Rattle.requests.specs.Range.{Named, InRange}
 use Rattle.rules.specs.declared.Ruling.{Ruling}
 use Rattle.rules.specs.declared.Ruling.TheVariants.{Free}
 use Rattle.rules.specs.Rules.{ruling}
-use Rattle.rules.specs.Ready.{racksIn, stateIn, Ready}
+use Rattle.rules.specs.Ready.{racks_in, state_in, Ready}
 use Rattle.records.specs.Form.{Form}
-use Rattle.records.specs.Record.{recordSize, stateBytes, state}
-use Rattle.bindings.proofs.Seals.{length-state}
+use Rattle.records.specs.Record.{record_size, state_bytes, state}
+use Rattle.bindings.proofs.Seals.{length_state}
 
-module _ (f : Form) (l : List ℕ) (q : Request) (room : recordSize f ≤ length l) where
-  count : racksIn (stateBytes f l) ≡ f.racks
-  count = ap (λ (m : ℕ). m / rackSize) (length-state f l room) ∙ mul-div_cancel f.racks (lit< tt)
+module _ (f : Form) (l : List ℕ) (q : Request) (room : record_size f ≤ length l) where
+  count : racks_in (state_bytes f l) ≡ f.racks
+  count = ap (λ (m : ℕ). m / rack_size) (length_state f l room) ∙ mul-div_cancel f.racks (lit< tt)
 
   -- the state in the bytes is the record's
-  pub state-in : stateIn (stateBytes f l) ≡ state f l
-  state-in = ap (λ (k : ℕ). state_of k (stateBytes f l)) count
+  pub state_in_lem : state_in (state_bytes f l) ≡ state f l
+  state_in_lem = ap (λ (k : ℕ). state_of k (state_bytes f l)) count
 
   -- the request's racks are among those in the bytes
-  pub named : (s : List ℕ) → s ≡ stateBytes f l → Named f.racks q → Named (racksIn s) q
+  pub named : (s : List ℕ) → s ≡ state_bytes f l → Named f.racks q → Named (racks_in s) q
   named s is among = rw (is, count) among
 
   -- what is judged on the bytes is judged on the record's state
-  pub judged : (s : List ℕ) (w : Ruling) → s ≡ stateBytes f l → w ≡ ruling (stateIn s) q → w ≡ ruling (state f l) q
-  judged s w is e = rw (is, state-in) at e
+  pub judged : (s : List ℕ) (w : Ruling) → s ≡ state_bytes f l → w ≡ ruling (state_in s) q → w ≡ ruling (state f l) q
+  judged s w is e = rw (is, state_in_lem) at e
 
   -- a request that nothing bars can be carried out
-  pub ready : InRange f.racks q → ruling (state f l) q ≡ Free → Ready (stateBytes f l) q
-  ready range free = record { whole = rw (count, length-state f l room); range = rw count range; free = rw state-in free }
+  pub ready : InRange f.racks q → ruling (state f l) q ≡ Free → Ready (state_bytes f l) q
+  ready range free = record { whole = rw (count, length_state f l room); range = rw count range; free = rw state_in_lem free }

@@ -10,25 +10,25 @@ use Rattle.numbers.specs.Parts.{over, join}
 use Rattle.numbers.proofs.Parts.{length_over}
 use Rattle.numbers.proofs.Layouts.{length-join}
 use Rattle.numbers.proofs.Lending.{lent, returned}
-use Rattle.numbers.proofs.Laying.{over-all, over-behind, over-front}
-use Rattle.racks.specs.Racks.{rackAt}
-use Rattle.racks.specs.Layout.{rackSize, state_of, bytesOfState}
-use Rattle.racks.proofs.StatePlaces.{length-stateOf}
-use Rattle.racks.proofs.StateBytes.{length-bytesOfState}
+use Rattle.numbers.proofs.Laying.{over_all, over-behind, over-front}
+use Rattle.racks.specs.Racks.{rack_at}
+use Rattle.racks.specs.Layout.{rack_size, state_of, bytes_of_state}
+use Rattle.racks.proofs.StatePlaces.{length-state_of}
+use Rattle.racks.proofs.StateBytes.{length-bytes_of_state}
 use Rattle.requests.specs.declared.Request.{Request}
-use Rattle.requests.specs.Requests.{rackOfRequest}
-use Rattle.rules.specs.Rules.{carryOut}
-use Rattle.rules.specs.Ready.{stateIn, Ready}
-use Rattle.rules.proofs.Changes.{length-carryOut}
+use Rattle.requests.specs.Requests.{rack_of_request}
+use Rattle.rules.specs.Rules.{carry_out}
+use Rattle.rules.specs.Ready.{state_in, Ready}
+use Rattle.rules.proofs.Changes.{length-carry_out}
 use Rattle.records.specs.Form.{Form}
-use Rattle.records.specs.Page.{hashSize}
-use Rattle.records.specs.Record.{stateSize, recordSize, stateBytes, summary, state, header}
+use Rattle.records.specs.Page.{hash_size}
+use Rattle.records.specs.Record.{state_size, record_size, state_bytes, summary, state, header}
 use Rattle.records.proofs.Headers.{length-header}
 use Rattle.hmac.specs.declared.Prepared.{Prepared}
 use Rattle.bindings.specs.Sealing.{sealed}
-use Rattle.bindings.proofs.Seals.{length-state, laid-state, sealed-laid, sealed-summary}
-use Rattle.calls.specs.Next.{nextState, nextBytes, nextStored, nextRecord}
-use Rattle.calls.proofs.CarryingOut.{state-in}
+use Rattle.bindings.proofs.Seals.{length_state, laid_state, sealed_laid, sealed_summary}
+use Rattle.calls.specs.Next.{next_state, next_bytes, next_stored, next_record}
+use Rattle.calls.proofs.CarryingOut.{state_in_lem}
 
 -- what was laid at the front, by another name
 pub laid_as : (a b x y : List ℕ) → y ≡ over 0 a x → a ≡ b → y ≡ over 0 b x
@@ -45,45 +45,45 @@ relaid a b v c x same =
     let fits : 0 + length v ≤ length b = omega arith in
     let rest : List ℕ = c ++ drop (length (a ++ (b ++ c))) x in
     let size : length (a ++ (b ++ c)) ≡ length (a ++ (v ++ c)) = simp length-append (omega arith) in
-    let there : over (length a + 0) v (a ++ (b ++ rest)) ≡ a ++ (v ++ rest) = rw (over-behind 0 v a (b ++ rest), over-front 0 v b rest fits, over-all v b same) in
+    let there : over (length a + 0) v (a ++ (b ++ rest)) ≡ a ++ (v ++ rest) = rw (over-behind 0 v a (b ++ rest), over-front 0 v b rest fits, over_all v b same) in
     rw (front (a ++ (b ++ c)) x, front (a ++ (v ++ c)) x, ← size) (simp append_assoc (rw add-zero at there))
 
 -- carrying a request out in the state that is lent, where it lies
-module _ (f : Form) (q : Request) (x : List ℕ) (room : recordSize f ≤ length x) where
-  length-next : length (nextBytes f x q) ≡ stateSize f
-  length-next = length-bytesOfState (nextState f x q) ∙ ap (λ (k : ℕ). k * rackSize) (length-carryOut (state f x) q ∙ length-stateOf f.racks (stateBytes f x))
+module _ (f : Form) (q : Request) (x : List ℕ) (room : record_size f ≤ length x) where
+  length_next : length (next_bytes f x q) ≡ state_size f
+  length_next = length-bytes_of_state (next_state f x q) ∙ ap (λ (k : ℕ). k * rack_size) (length-carry_out (state f x) q ∙ length-state_of f.racks (state_bytes f x))
 
-  pub lent-state : take (3 + stateSize f - 3) (drop 3 x) ≡ stateBytes f x
-  lent-state = lent 3 (stateSize f) x
+  pub lent_state : take (3 + state_size f - 3) (drop 3 x) ≡ state_bytes f x
+  lent_state = lent 3 (state_size f) x
 
-  pub carried : (v : List ℕ) (k : ℕ) → (v ≡ bytesOfState (carryOut (stateIn (take (3 + stateSize f - 3) (drop 3 x))) q)) × (k ≡ (rackAt (carryOut (stateIn (take (3 + stateSize f - 3) (drop 3 x))) q) (rackOfRequest q)).stored)
-      → (take 3 x ++ (v ++ drop (3 + stateSize f - 3) (drop 3 x)) ≡ over 3 (nextBytes f x q) x) × (k ≡ nextStored f x q)
+  pub carried : (v : List ℕ) (k : ℕ) → (v ≡ bytes_of_state (carry_out (state_in (take (3 + state_size f - 3) (drop 3 x))) q)) × (k ≡ (rack_at (carry_out (state_in (take (3 + state_size f - 3) (drop 3 x))) q) (rack_of_request q)).stored)
+      → (take 3 x ++ (v ++ drop (3 + state_size f - 3) (drop 3 x)) ≡ over 3 (next_bytes f x q) x) × (k ≡ next_stored f x q)
   carried v k is =
-      let there = rw (lent-state, state-in f x q room) at is in
-      (rw there.0 (returned 3 (stateSize f) (nextBytes f x q) x length-next), there.1)
+      let there = rw (lent_state, state_in_lem f x q room) at is in
+      (rw there.0 (returned 3 (state_size f) (next_bytes f x q) x length_next), there.1)
 
 -- the pieces of the record l, with the summary su, were laid in x
-module _ (f : Form) (l su x : List ℕ) (q : Request) (room : recordSize f ≤ length x) (long : length l ≡ recordSize f) (u : length su ≡ hashSize) (y : List ℕ) (laid : y ≡ over 0 (join (header f ∷ stateBytes f l ∷ su ∷ [])) x) where
-  wide : length (stateBytes f l) ≡ stateSize f
-  wide = length-state f l (omega arith)
+module _ (f : Form) (l su x : List ℕ) (q : Request) (room : record_size f ≤ length x) (long : length l ≡ record_size f) (u : length su ≡ hash_size) (y : List ℕ) (laid : y ≡ over 0 (join (header f ∷ state_bytes f l ∷ su ∷ [])) x) where
+  wide : length (state_bytes f l) ≡ state_size f
+  wide = length_state f l (omega arith)
 
-  state-there : stateBytes f y ≡ stateBytes f l
-  state-there = ap (stateBytes f) laid ∙ laid-state f (stateBytes f l) su x wide u room
+  state_there : state_bytes f y ≡ state_bytes f l
+  state_there = ap (state_bytes f) laid ∙ laid_state f (state_bytes f l) su x wide u room
 
   -- the request can be carried out there
-  pub ready-there : Ready (stateBytes f l) q → (recordSize f ≤ length y) × Ready (stateBytes f y) q
-  ready-there ready =
-      let kept : length y ≡ length x = ap length laid ∙ length_over 0 _ x (omega (arith, length-join (header f ∷ stateBytes f l ∷ su ∷ []), length-header f, wide)) in
-      (omega arith, rw state-there ready)
+  pub ready_there : Ready (state_bytes f l) q → (record_size f ≤ length y) × Ready (state_bytes f y) q
+  ready_there ready =
+      let kept : length y ≡ length x = ap length laid ∙ length_over 0 _ x (omega (arith, length-join (header f ∷ state_bytes f l ∷ su ∷ []), length-header f, wide)) in
+      (omega arith, rw state_there ready)
 
   -- it was carried out there, and what stands there was sealed
-  pub written : (key : Prepared) (k : ℕ) (z w : List ℕ) → (z ≡ over 3 (nextBytes f y q) y) × (k ≡ nextStored f y q) → w ≡ sealed f key z
-      → (w ≡ over 0 (nextRecord f key l q su) x) × ((k ≡ nextStored f l q) × (summary f w ≡ su))
+  pub written : (key : Prepared) (k : ℕ) (z w : List ℕ) → (z ≡ over 3 (next_bytes f y q) y) × (k ≡ next_stored f y q) → w ≡ sealed f key z
+      → (w ≡ over 0 (next_record f key l q su) x) × ((k ≡ next_stored f l q) × (summary f w ≡ su))
   written key k z w (moved, stored) is =
-      let st = nextBytes f l q in
-      let size : length st ≡ stateSize f = length-next f q l (omega arith) in
-      let again = rw (length-header f) at (relaid (header f) (stateBytes f l) st (su ++ []) x (size ∙ sym wide)) in
-      let there : z ≡ over 0 (join (header f ∷ st ∷ su ∷ [])) x = moved ∙ rw (state-there, laid) again in (
-        is ∙ rw there (sealed-laid f st su x size u room key),
-        (stored ∙ ap (λ (m : List ℕ). (rackAt (carryOut (state_of f.racks m) q) (rackOfRequest q)).stored) state-there, rw (is, there) (sealed-summary f st su x size u room key)),
+      let st = next_bytes f l q in
+      let size : length st ≡ state_size f = length_next f q l (omega arith) in
+      let again = rw (length-header f) at (relaid (header f) (state_bytes f l) st (su ++ []) x (size ∙ sym wide)) in
+      let there : z ≡ over 0 (join (header f ∷ st ∷ su ∷ [])) x = moved ∙ rw (state_there, laid) again in (
+        is ∙ rw there (sealed_laid f st su x size u room key),
+        (stored ∙ ap (λ (m : List ℕ). (rack_at (carry_out (state_of f.racks m) q) (rack_of_request q)).stored) state_there, rw (is, there) (sealed_summary f st su x size u room key)),
       )

@@ -7,14 +7,14 @@ use Rattle.calls.specs.declared.PerformAnswer.{PerformAnswer}
 use Rattle.calls.specs.declared.PerformAnswer.TheVariants.{Done, Refused}
 
 -- perform and repeat: 0 and what is stored, or the refusal's number and 0
-abbrev pub numberTold : PerformAnswer → ℕ
-numberTold (Done stored) = 0
-numberTold (Refused r) = number_of r
+abbrev pub number_told : PerformAnswer → ℕ
+number_told (Done stored) = 0
+number_told (Refused r) = number_of r
 
-abbrev pub storedTold : PerformAnswer → ℕ
-storedTold (Done stored) = stored
-storedTold (Refused r) = 0
+abbrev pub stored_told : PerformAnswer → ℕ
+stored_told (Done stored) = stored
+stored_told (Refused r) = 0
 
 -- an answer, with what page and answer buffer hold then
 abbrev pub told : PerformAnswer → List ℕ → List ℕ → Performed
-told r page answer = record { number = numberTold r; stored = storedTold r; page = page; answer = answer }
+told r page answer = record { number = number_told r; stored = stored_told r; page = page; answer = answer }

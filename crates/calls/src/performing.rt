@@ -2,16 +2,16 @@
 // current), tests 9 to 11, and the writing: the next record in the answer, sealed there, and then the page.
 ghost use Rattle.std.specs.Prelude.{◌≡◌, [], ◌∷◌, ◌≤◌, length};
 ghost use Rattle.numbers.specs.Parts.{over, join};
-ghost use Rattle.requests.specs.Layout.{requestSize};
+ghost use Rattle.requests.specs.Layout.{request_size};
 ghost use Rattle.rules.specs.Ready.{Ready};
 ghost use Rattle.records.specs.Form.{form_of};
-ghost use Rattle.records.specs.Page.{pageSize};
-ghost use Rattle.records.specs.Record.{recordSize, stateBytes, summary, header};
+ghost use Rattle.records.specs.Page.{page_size};
+ghost use Rattle.records.specs.Record.{record_size, state_bytes, summary, header};
 ghost use Rattle.hmac.specs.Preparation.{halves};
 ghost use Rattle.answers.specs.Answers.{performed};
 ghost use Rattle.answers.specs.Edition.{design};
 ghost use Rattle.calls.specs.Told.{told};
-ghost use Rattle.calls.specs.Next.{movedOn, nextStored, nextRecord};
+ghost use Rattle.calls.specs.Next.{moved_on, next_stored, next_record};
 
 use crate::PerformAnswer;
 use crate::carrying::{carry, judge_record, lay_state};
@@ -67,14 +67,14 @@ fn write_performed<'a>(
     outer: &'a [u32; 8],
     form: Form,
 ) -> u32
-    requires page_len { length page.old ≡ pageSize }
-    requires request_len { length request.now ≡ requestSize }
-    requires form_in_bounds { recordSize (form_of form) ≤ length answer.old }
-    requires record_len { length «record».now ≡ recordSize (form_of form) }
-    requires ready { Ready (stateBytes (form_of form) «record».now) q }
-    ensures page_after { page.new ≡ over 0 (movedOn (form_of form) «record».now request.now) page.old }
-    ensures answer_after { answer.new ≡ over 0 (nextRecord (form_of form) (halves inner.now outer.now) «record».now q (movedOn (form_of form) «record».now request.now)) answer.old }
-    ensures value { result ≡ nextStored (form_of form) «record».now q }
+    requires page_len { length page.old ≡ page_size }
+    requires request_len { length request.now ≡ request_size }
+    requires form_in_bounds { record_size (form_of form) ≤ length answer.old }
+    requires record_len { length «record».now ≡ record_size (form_of form) }
+    requires ready { Ready (state_bytes (form_of form) «record».now) q }
+    ensures page_after { page.new ≡ over 0 (moved_on (form_of form) «record».now request.now) page.old }
+    ensures answer_after { answer.new ≡ over 0 (next_record (form_of form) (halves inner.now outer.now) «record».now q (moved_on (form_of form) «record».now request.now)) answer.old }
+    ensures value { result ≡ next_stored (form_of form) «record».now q }
 {
     lay_performed(answer, record, request, form);
     let stored = carry(answer, q, form);
@@ -86,10 +86,10 @@ fn write_performed<'a>(
 
 // Lays the header, the record's state and the next summary at the front of the answer.
 fn lay_performed(answer: &mut [u8], record: &[u8], request: &[u8], form: Form)
-    requires form_in_bounds { recordSize (form_of form) ≤ length answer.old }
-    requires record_len { length «record».now ≡ recordSize (form_of form) }
-    requires request_len { length request.now ≡ requestSize }
-    ensures { answer.new ≡ over 0 (join (header (form_of form) ∷ stateBytes (form_of form) «record».now ∷ movedOn (form_of form) «record».now request.now ∷ [])) answer.old }
+    requires form_in_bounds { record_size (form_of form) ≤ length answer.old }
+    requires record_len { length «record».now ≡ record_size (form_of form) }
+    requires request_len { length request.now ≡ request_size }
+    ensures { answer.new ≡ over 0 (join (header (form_of form) ∷ state_bytes (form_of form) «record».now ∷ moved_on (form_of form) «record».now request.now ∷ [])) answer.old }
 {
     let own = summary_part(record, form);
     let hash = next_summary(own, request);
@@ -99,8 +99,8 @@ fn lay_performed(answer: &mut [u8], record: &[u8], request: &[u8], form: Form)
 
 // Moves the page to the summary of the record in the answer.
 fn move_page(page: &mut [u8], answer: &[u8], form: Form)
-    requires page_len { length page.old ≡ pageSize }
-    requires form_in_bounds { recordSize (form_of form) ≤ length answer.now }
+    requires page_len { length page.old ≡ page_size }
+    requires form_in_bounds { record_size (form_of form) ≤ length answer.now }
     ensures { page.new ≡ over 0 (summary (form_of form) answer.now) page.old }
 {
     let size = record_size(form);

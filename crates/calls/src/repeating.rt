@@ -3,16 +3,16 @@
 ghost use Rattle.std.specs.Prelude.{◌≡◌, ◌≤◌, length};
 ghost use Rattle.numbers.specs.Parts.{over};
 ghost use Rattle.numbers.specs.Comparing.{same};
-ghost use Rattle.requests.specs.Layout.{requestSize};
+ghost use Rattle.requests.specs.Layout.{request_size};
 ghost use Rattle.rules.specs.Ready.{Ready};
 ghost use Rattle.records.specs.Form.{form_of};
-ghost use Rattle.records.specs.Page.{pageSize, pageSummary};
-ghost use Rattle.records.specs.Record.{recordSize, stateBytes};
+ghost use Rattle.records.specs.Page.{page_size, page_summary};
+ghost use Rattle.records.specs.Record.{record_size, state_bytes};
 ghost use Rattle.hmac.specs.Preparation.{halves};
 ghost use Rattle.answers.specs.Answers.{repeated};
 ghost use Rattle.answers.specs.Edition.{design};
 ghost use Rattle.calls.specs.Told.{told};
-ghost use Rattle.calls.specs.Next.{movedOn, nextStored, nextRecord};
+ghost use Rattle.calls.specs.Next.{moved_on, next_stored, next_record};
 
 use crate::PerformAnswer;
 use crate::carrying::{carry, judge_record, lay_state};
@@ -59,10 +59,10 @@ pub fn repeat(
 
 // Test 8 of repeat: whether the record's summary, moved on by the request, is the page's.
 fn leads_to(page: &[u8], record: &[u8], request: &[u8], form: Form) -> bool
-    requires page_len { length page.now ≡ pageSize }
-    requires record_len { length «record».now ≡ recordSize (form_of form) }
-    requires request_len { length request.now ≡ requestSize }
-    ensures { result ≡ same (movedOn (form_of form) «record».now request.now) (pageSummary page.now) }
+    requires page_len { length page.now ≡ page_size }
+    requires record_len { length «record».now ≡ record_size (form_of form) }
+    requires request_len { length request.now ≡ request_size }
+    ensures { result ≡ same (moved_on (form_of form) «record».now request.now) (page_summary page.now) }
 {
     let own = summary_part(record, form);
     let hash = next_summary(own, request);
@@ -81,12 +81,12 @@ fn write_repeated<'a>(
     outer: &'a [u32; 8],
     form: Form,
 ) -> u32
-    requires page_len { length page.now ≡ pageSize }
-    requires form_in_bounds { recordSize (form_of form) ≤ length answer.old }
-    requires record_len { length «record».now ≡ recordSize (form_of form) }
-    requires ready { Ready (stateBytes (form_of form) «record».now) q }
-    ensures answer_after { answer.new ≡ over 0 (nextRecord (form_of form) (halves inner.now outer.now) «record».now q (pageSummary page.now)) answer.old }
-    ensures value { result ≡ nextStored (form_of form) «record».now q }
+    requires page_len { length page.now ≡ page_size }
+    requires form_in_bounds { record_size (form_of form) ≤ length answer.old }
+    requires record_len { length «record».now ≡ record_size (form_of form) }
+    requires ready { Ready (state_bytes (form_of form) «record».now) q }
+    ensures answer_after { answer.new ≡ over 0 (next_record (form_of form) (halves inner.now outer.now) «record».now q (page_summary page.now)) answer.old }
+    ensures value { result ≡ next_stored (form_of form) «record».now q }
 {
     lay_state(answer, record, page_summary(page), form);
     let stored = carry(answer, q, form);

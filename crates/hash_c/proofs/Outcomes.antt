@@ -12,8 +12,8 @@ use borrow.Author.Tests.{le-leb, lt-leb}
 use Rattle.numbers.specs.Parts.{over}
 use Rattle.hash_c.specs.Outcome.{Outcome, refused, answered}
 
-pub no-bounds : (b : Bool) (answer d : List ℕ) → b ≡ false → refused d ≡ answered b answer d
-no-bounds b answer d e = ap {B = Outcome} (λ (t : Bool). answered t answer d) (sym e)
+pub no_bounds : (b : Bool) (answer d : List ℕ) → b ≡ false → refused d ≡ answered b answer d
+no_bounds b answer d e = ap {B = Outcome} (λ (t : Bool). answered t answer d) (sym e)
 
 pub no_room : (b : Bool) (answer d : List ℕ) → b ≡ true → length d < 32 → refused d ≡ answered b answer d
 no_room b answer d e short =
@@ -28,15 +28,15 @@ written b answer d o e room so =
     ∙ ap {B = Outcome} (λ (t : Bool). answered t answer d) (sym e)
 
 -- the key's bound is tested before the others
-pub long-key : (key : List ℕ) (o : Outcome) (d : List ℕ) → 256 < length key → refused d ≡ cond (leb (length key) 256) o (refused d)
-long-key key o d long = ap {B = Outcome} (λ (t : Bool). cond t o (refused d)) (sym (lt-leb (length key) 256 long))
+pub long_key : (key : List ℕ) (o : Outcome) (d : List ℕ) → 256 < length key → refused d ≡ cond (leb (length key) 256) o (refused d)
+long_key key o d long = ap {B = Outcome} (λ (t : Bool). cond t o (refused d)) (sym (lt-leb (length key) 256 long))
 
-pub short-key : (key : List ℕ) (o : Outcome) (d : List ℕ) → length key ≤ 256 → o ≡ cond (leb (length key) 256) o (refused d)
-short-key key o d short = ap {B = Outcome} (λ (t : Bool). cond t o (refused d)) (sym (le-leb (length key) 256 short))
+pub short_key : (key : List ℕ) (o : Outcome) (d : List ℕ) → length key ≤ 256 → o ≡ cond (leb (length key) 256) o (refused d)
+short_key key o d short = ap {B = Outcome} (λ (t : Bool). cond t o (refused d)) (sym (le-leb (length key) 256 short))
 
 -- a sum that is compared by differences
-pub by-differences : (a b c most : ℕ) → a ≤ most → b ≤ most - a → leb c (most - a - b) ≡ leb (a + b + c) most
-by-differences a b c most p q =
+pub by_differences : (a b c most : ℕ) → a ≤ most → b ≤ most - a → leb c (most - a - b) ≡ leb (a + b + c) most
+by_differences a b c most p q =
     elim (dec_le c (most - a - b)) [
       | yes h ↦ le-leb c (most - a - b) h ∙ sym (le-leb (a + b + c) most (omega arith))
       | no h ↦ lt-leb c (most - a - b) (lt_of_not-le h) ∙ sym (lt-leb (a + b + c) most (omega (arith, lt_of_not-le h)))

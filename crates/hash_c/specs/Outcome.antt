@@ -18,8 +18,8 @@ refused d = record { code = 1; out = d }
 abbrev pub answered : Bool → List ℕ → List ℕ → Outcome
 answered bounds answer d = cond bounds (cond (leb 32 (length d)) (record { code = 0; out = over 0 answer d }) (refused d)) (refused d)
 
-unfoldable pub hashOutcome : List ℕ → List ℕ → List ℕ → List ℕ → Outcome
-hashOutcome a b c d = answered (leb (length a + length b + length c) 65536) (sha256 (a ++ b ++ c)) d
+unfoldable pub hash_outcome : List ℕ → List ℕ → List ℕ → List ℕ → Outcome
+hash_outcome a b c d = answered (leb (length a + length b + length c) 65536) (sha256 (a ++ b ++ c)) d
 
-unfoldable pub macOutcome : List ℕ → List ℕ → List ℕ → List ℕ → Outcome
-macOutcome key a b d = cond (leb (length key) 256) (answered (leb (length a + length b) 65472) (hmac key (a ++ b)) d) (refused d)
+unfoldable pub mac_outcome : List ℕ → List ℕ → List ℕ → List ℕ → Outcome
+mac_outcome key a b d = cond (leb (length key) 256) (answered (leb (length a + length b) 65472) (hmac key (a ++ b)) d) (refused d)

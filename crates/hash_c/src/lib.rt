@@ -2,7 +2,7 @@
 // length. Each function writes the 32 bytes of its answer to the front of out and returns 0; where a bound is
 // not met, or out has fewer than 32 bytes, it writes nothing and returns 1. The buffers do not overlap.
 ghost use Rattle.std.specs.Prelude.{◌≡◌, ◌+◌, leb};
-ghost use Rattle.hash_c.specs.Outcome.{Outcome, hashOutcome, macOutcome};
+ghost use Rattle.hash_c.specs.Outcome.{Outcome, hash_outcome, mac_outcome};
 
 use hmac::hmac;
 use numbers::copy;
@@ -11,7 +11,7 @@ use sha256::sha256;
 // The digest of a, b and c end to end.
 #[unsafe(no_mangle)]
 pub extern "C" fn hash_sha256(a: &[u8], b: &[u8], c: &[u8], out: &mut [u8]) -> u32
-    ensures { ◌≡◌ {A = Outcome} (record { code = result; out = out.new }) (hashOutcome a.now b.now c.now out.old) }
+    ensures { ◌≡◌ {A = Outcome} (record { code = result; out = out.new }) (hash_outcome a.now b.now c.now out.old) }
 {
     if !within(a.len(), b.len(), c.len(), 65536) {
         return 1;
@@ -27,7 +27,7 @@ pub extern "C" fn hash_sha256(a: &[u8], b: &[u8], c: &[u8], out: &mut [u8]) -> u
 // The MAC of a and b end to end under the key.
 #[unsafe(no_mangle)]
 pub extern "C" fn hash_hmac(key: &[u8], a: &[u8], b: &[u8], out: &mut [u8]) -> u32
-    ensures { ◌≡◌ {A = Outcome} (record { code = result; out = out.new }) (macOutcome key.now a.now b.now out.old) }
+    ensures { ◌≡◌ {A = Outcome} (record { code = result; out = out.new }) (mac_outcome key.now a.now b.now out.old) }
 {
     if 256 < key.len() {
         return 1;

@@ -5,37 +5,37 @@ use Prim.Native.Nat.{ℕ}
 use mathlib.Core.List.{List, ◌++◌}
 use lib.ListN.{length, drop, length-append}
 use Rattle.numbers.specs.Parts.{part}
-use Rattle.numbers.proofs.Numbers.{length-bytesOf}
-use Rattle.records.specs.Page.{hashSize, zeroSummary}
-use Rattle.records.specs.Record.{stateBytes}
-use Rattle.records.proofs.RecordBytes.{length-record}
-use Rattle.answers.proofs.States.{record-good, served-good}
+use Rattle.numbers.proofs.Numbers.{length-bytes_of}
+use Rattle.records.specs.Page.{hash_size, zero_summary}
+use Rattle.records.specs.Record.{state_bytes}
+use Rattle.records.proofs.RecordBytes.{length_record}
+use Rattle.answers.proofs.States.{record_good, served_good}
 use Rattle.histories.specs.Runs.{Fresh}
 use Rattle.histories.specs.Laws.{Laws}
 use Rattle.histories.specs.Ties.{NumberLaws}
-use Rattle.histories.specs.Toy.{toyHash, oneRack, toy, fresh}
-use Rattle.histories.proofs.EditionLaws.{summary-is-32, page-stays-right, summary-is-put, key-stays, early-numbers, behind-numbers}
+use Rattle.histories.specs.Toy.{toy_hash, one_rack, toy, fresh}
+use Rattle.histories.proofs.EditionLaws.{summary_is_32, page_stays_right, summary_is_put, key_stays, early_numbers, behind_numbers}
 
-length-toyHash : (m : List ℕ) → length (toyHash m) ≡ hashSize
-unfolding toyHash
-length-toyHash m = rw (length-append, length-bytesOf) refl
+length-toy_hash : (m : List ℕ) → length (toy_hash m) ≡ hash_size
+unfolding toy_hash
+length-toy_hash m = rw (length-append, length-bytes_of) refl
 
-pub toy-laws : Laws toy
-toy-laws =
+pub toy_laws : Laws toy
+toy_laws =
     record {
-      length-hash = length-toyHash;
-      states-apart = λ a b e. ap (drop 1) e;
-      length-summary = summary-is-32 oneRack;
-      right-page = page-stays-right;
-      page-summary = summary-is-put;
-      page-mac = λ page s bound right long. ap (λ (key : List ℕ). toyHash (key ++ bound)) (key-stays page s right long);
-      length-next = λ page l request state passed serves.
-          length-record oneRack state _ _ (served-good 1 (stateBytes oneRack l) request state (record-good oneRack l passed) serves).size (length-toyHash _) (length-toyHash _);
+      length-hash = length-toy_hash;
+      states_apart = λ a b e. ap (drop 1) e;
+      length_summary = summary_is_32 one_rack;
+      right_page_lem = page_stays_right;
+      page_summary_lem = summary_is_put;
+      page_mac = λ page s bound right long. ap (λ (key : List ℕ). toy_hash (key ++ bound)) (key_stays page s right long);
+      length_next = λ page l request state passed serves.
+          length_record one_rack state _ _ (served_good 1 (state_bytes one_rack l) request state (record_good one_rack l passed) serves).size (length-toy_hash _) (length-toy_hash _);
     }
 
-pub toy-numbers : NumberLaws toy
-toy-numbers = record { early = early-numbers oneRack; behind = behind-numbers 1 }
+pub toy_numbers : NumberLaws toy
+toy_numbers = record { early = early_numbers one_rack; behind = behind_numbers 1 }
 
-pub fresh-is : Fresh toy fresh
-unfolding zeroSummary part
-fresh-is = record { right = refl; zero = refl }
+pub fresh_is : Fresh toy fresh
+unfolding zero_summary part
+fresh_is = record { right = refl; zero = refl }

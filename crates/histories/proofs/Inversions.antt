@@ -9,17 +9,17 @@ use mathlib.Core.List.Memᴰ
 use mathlib.Core.List.{List, [], ◌∷◌, ◌++◌, Memᴰ}
 use Rattle.records.specs.declared.Tested.{Tested}
 use Rattle.records.specs.declared.Tested.TheVariants.{Passed, Refused}
-use Rattle.bindings.specs.Hashed.{summaryMessage}
+use Rattle.bindings.specs.Hashed.{summary_message}
 use Rattle.answers.specs.Design.{Design, Served}
-use Rattle.answers.specs.Hashing.{nextSummary, boundMessage, bindingOf}
-use Rattle.answers.specs.Rows.{summaryAlong, messagesAlong, servedAlong, Origin, originSummary, originState}
-use Rattle.answers.specs.Judging.{Verdict, early, forged, stale, barred, good, performVerdict, repeatVerdict, viewVerdict, resumeVerdict}
-use Rattle.answers.specs.Answers.{openTests, openedBy, opened, answeredBy, performed, repeated}
+use Rattle.answers.specs.Hashing.{next_summary, bound_message, binding_of}
+use Rattle.answers.specs.Rows.{summary_along, messages_along, served_along, Origin, origin_summary, origin_state}
+use Rattle.answers.specs.Judging.{Verdict, early, forged, stale, barred, good, perform_verdict, repeat_verdict, view_verdict, resume_verdict}
+use Rattle.answers.specs.Answers.{open_tests, opened_by, opened, answered_by, performed, repeated}
 use Rattle.histories.specs.Calls.{Call, opens, performs, repeats, views, resumes}
-use Rattle.histories.specs.Did.{Did, recordMessages, nothing, hashes, tries, finds, relies, takes, answers, both, openDid, performDid, repeatDid, lookDid, resumeDid, did}
-use Rattle.histories.specs.Runs.{Step, whole, cutBefore, cutAfter, call_of, pageAfterStep, movedBy}
+use Rattle.histories.specs.Did.{Did, record_messages, nothing, hashes, tries, finds, relies, takes, answers, both, open_did, perform_did, repeat_did, look_did, resume_did, did}
+use Rattle.histories.specs.Runs.{Step, whole, cut_before, cut_after, call_of, page_after_step, moved_by}
 use Rattle.histories.proofs.Paths.{Within}
-use Rattle.histories.proofs.Verdicts.{past, Fits, perform-fits, repeat-tests, view-fits, resume-fits, perform-good, repeat-good}
+use Rattle.histories.proofs.Verdicts.{past, Fits, perform_fits, repeat_tests, view_fits, resume_fits, perform_good, repeat_good}
 
 -- ---- what there is to know
 
@@ -27,7 +27,7 @@ use Rattle.histories.proofs.Verdicts.{past, Fits, perform-fits, repeat-tests, vi
 pub record Based (D : Design) (d : Did) (l : List ℕ) : Type 0 where
   pub tests : D.tested l ≡ Passed
   pub relies : Memᴰ l d.relied
-  pub needs : Within (recordMessages D l) d.needed
+  pub needs : Within (record_messages D l) d.needed
 
 abbrev pub OriginBased : Design → Did → Origin → Type 0
 OriginBased D d Origin.start = Unit {0}
@@ -40,23 +40,23 @@ pub record Taken (D : Design) (page : List ℕ) (d : Did) (l : List ℕ) : Type 
 -- a state that a row of requests leads to from an origin
 pub record Led (D : Design) (d : Did) (o : Origin) (row : List (List ℕ)) (state : List ℕ) : Type 0 where
   pub based : OriginBased D d o
-  pub serves : servedAlong D (Served.carried (originState D o)) row ≡ Served.carried state
-  pub chain : Within (messagesAlong D (originSummary D o) row) d.needed
-  pub states : Memᴰ (D.stateMessage state) d.needed
-  pub bounds : Memᴰ (boundMessage D (summaryAlong D (originSummary D o) row) state) d.needed
+  pub serves : served_along D (Served.carried (origin_state D o)) row ≡ Served.carried state
+  pub chain : Within (messages_along D (origin_summary D o) row) d.needed
+  pub states : Memᴰ (D.state_message state) d.needed
+  pub bounds : Memᴰ (bound_message D (summary_along D (origin_summary D o) row) state) d.needed
 
 pub record Answered (D : Design) (d : Did) (bound : List ℕ) : Type 0 where
   pub origin : Origin
   pub row : List (List ℕ)
   pub state : List ℕ
   pub led : Led D d origin row state
-  pub binds : bound ≡ bindingOf D (summaryAlong D (originSummary D origin) row) state
+  pub binds : bound ≡ binding_of D (summary_along D (origin_summary D origin) row) state
 
 -- the page stays, or the next summary of a record taken, by a request, is put in it
 pub data Moved (D : Design) (page : List ℕ) (d : Did) (after : List ℕ) (moved : List (List ℕ)) : Type 0 where
   stays : after ≡ page → moved ≡ [] → Moved D page d after moved
   moves : (l request state : List ℕ) → Taken D page d l → Led D d (Origin.from l) (request ∷ []) state
-      → after ≡ D.withSummary page (nextSummary D (D.summary l) request) → moved ≡ request ∷ [] → Moved D page d after moved
+      → after ≡ D.with_summary page (next_summary D (D.summary l) request) → moved ≡ request ∷ [] → Moved D page d after moved
 
 pub record Deed (D : Design) (page : List ℕ) (d : Did) : Type 0 where
   pub takens : (l : List ℕ) → Memᴰ l d.taken → Taken D page d l
@@ -76,143 +76,143 @@ none m = absurd (Memᴰ.not-nil m)
 -- ---- one thing and then another
 
 module _ (D : Design) (page : List ℕ) where
-  based-left : (a b : Did) (l : List ℕ) → Based D a l → Based D (both a b) l
-  based-left a b l x =
+  based_left : (a b : Did) (l : List ℕ) → Based D a l → Based D (both a b) l
+  based_left a b l x =
       record { tests = x.tests; relies = Memᴰ.append_left _ x.relies; needs = λ m n. Memᴰ.append_left _ (x.needs m n) }
 
-  based-right : (a b : Did) (l : List ℕ) → Based D b l → Based D (both a b) l
-  based-right a b l x =
+  based_right : (a b : Did) (l : List ℕ) → Based D b l → Based D (both a b) l
+  based_right a b l x =
       record { tests = x.tests; relies = Memᴰ.append_right a.relied x.relies; needs = λ m n. Memᴰ.append_right a.needed (x.needs m n) }
 
-  taken-both : (a b : Did) → ((l : List ℕ) → Memᴰ l a.taken → Taken D page a l) → ((l : List ℕ) → Memᴰ l b.taken → Taken D page b l)
+  taken_both : (a b : Did) → ((l : List ℕ) → Memᴰ l a.taken → Taken D page a l) → ((l : List ℕ) → Memᴰ l b.taken → Taken D page b l)
       → (l : List ℕ) → Memᴰ l (a.taken ++ b.taken) → Taken D page (both a b) l
-  taken-both a b x y l m =
+  taken_both a b x y l m =
       ⊎_elim
-      (λ (n : Memᴰ l a.taken). record { based = based-left a b l (x l n).based; fits = (x l n).fits })
-      (λ n. record { based = based-right a b l (y l n).based; fits = (y l n).fits })
+      (λ (n : Memᴰ l a.taken). record { based = based_left a b l (x l n).based; fits = (x l n).fits })
+      (λ n. record { based = based_right a b l (y l n).based; fits = (y l n).fits })
       (Memᴰ.append_cases a.taken m)
 
   still_both : (a b : Did) → Still D page a → Still D page b → Still D page (both a b)
   still_both a b x y =
       record {
-        takens = taken-both a b x.takens y.takens;
+        takens = taken_both a b x.takens y.takens;
         silent = rw (x.silent, y.silent) refl;
         unmoved = rw (x.unmoved, y.unmoved) refl;
         left = y.left;
       }
 
-  still-deed : (d : Did) → Still D page d → Deed D page d
-  still-deed d x = record { takens = x.takens; answereds = λ b m. none (rw x.silent at m); moveds = stays x.left x.unmoved }
+  still_deed : (d : Did) → Still D page d → Deed D page d
+  still_deed d x = record { takens = x.takens; answereds = λ b m. none (rw x.silent at m); moveds = stays x.left x.unmoved }
 
   -- ---- what there is to do
 
-  taking-none : (d : Did) → d.taken ≡ [] → d.answered ≡ [] → d.moved ≡ [] → d.page ≡ page → Still D page d
-  taking-none d taken answered moved is = record { takens = λ l m. none (rw taken at m); silent = answered; unmoved = moved; left = is }
+  taking_none : (d : Did) → d.taken ≡ [] → d.answered ≡ [] → d.moved ≡ [] → d.page ≡ page → Still D page d
+  taking_none d taken answered moved is = record { takens = λ l m. none (rw taken at m); silent = answered; unmoved = moved; left = is }
 
-  relied-based : (after l : List ℕ) → D.tested l ≡ Passed → Based D (relies D after l) l
-  relied-based after l tests = record { tests = tests; relies = Memᴰ.head refl; needs = λ x m. m }
+  relied_based : (after l : List ℕ) → D.tested l ≡ Passed → Based D (relies D after l) l
+  relied_based after l tests = record { tests = tests; relies = Memᴰ.head refl; needs = λ x m. m }
 
-  takes-taken : (after k : List ℕ) → Fits D page k → (l : List ℕ) → Memᴰ l (takes D after k).taken → Taken D page (takes D after k) l
-  takes-taken after k fits l m =
+  takes_taken : (after k : List ℕ) → Fits D page k → (l : List ℕ) → Memᴰ l (takes D after k).taken → Taken D page (takes D after k) l
+  takes_taken after k fits l m =
       let e : l ≡ k = Memᴰ.eq_of_singleton m in
       rw e (record { based = record { tests = fits.tests; relies = Memᴰ.head refl; needs = λ x m. m }; fits = fits })
 
-  takes-still : (after k : List ℕ) → after ≡ page → Fits D page k → Still D page (takes D after k)
-  takes-still after k is fits = record { takens = takes-taken after k fits; silent = refl; unmoved = refl; left = is }
+  takes_still : (after k : List ℕ) → after ≡ page → Fits D page k → Still D page (takes D after k)
+  takes_still after k is fits = record { takens = takes_taken after k fits; silent = refl; unmoved = refl; left = is }
 
   -- an answer along a row, behind what its origin rests on
-  led-both : (a : Did) (after : List ℕ) (moved : List (List ℕ)) (o : Origin) (row : List (List ℕ)) (state : List ℕ) → OriginBased D a o
-      → servedAlong D (Served.carried (originState D o)) row ≡ Served.carried state → Led D (both a (answers D after moved o row state)) o row state
-  led-both a after moved o row state based serves =
-      let chain = messagesAlong D (originSummary D o) row in
+  led_both : (a : Did) (after : List ℕ) (moved : List (List ℕ)) (o : Origin) (row : List (List ℕ)) (state : List ℕ) → OriginBased D a o
+      → served_along D (Served.carried (origin_state D o)) row ≡ Served.carried state → Led D (both a (answers D after moved o row state)) o row state
+  led_both a after moved o row state based serves =
+      let chain = messages_along D (origin_summary D o) row in
       record {
-        based = origin-left o based;
+        based = origin_left o based;
         serves = serves;
         chain = λ x m. Memᴰ.append_right a.needed (Memᴰ.append_left _ m);
         states = Memᴰ.append_right a.needed (Memᴰ.append_right chain (Memᴰ.head refl));
         bounds = Memᴰ.append_right a.needed (Memᴰ.append_right chain (Memᴰ.tail (Memᴰ.head refl)));
       }
     where
-      origin-left : (o' : Origin) → OriginBased D a o' → OriginBased D (both a (answers D after moved o row state)) o'
-      origin-left Origin.start x = tt
-      origin-left (Origin.from l) x = based-left a (answers D after moved o row state) l x
+      origin_left : (o' : Origin) → OriginBased D a o' → OriginBased D (both a (answers D after moved o row state)) o'
+      origin_left Origin.start x = tt
+      origin_left (Origin.from l) x = based_left a (answers D after moved o row state) l x
 
-  answer-deed : (a : Did) (after : List ℕ) (moved : List (List ℕ)) (o : Origin) (row : List (List ℕ)) (state : List ℕ)
+  answer_deed : (a : Did) (after : List ℕ) (moved : List (List ℕ)) (o : Origin) (row : List (List ℕ)) (state : List ℕ)
       → ((l : List ℕ) → Memᴰ l a.taken → Taken D page a l) → a.answered ≡ [] → OriginBased D a o
-      → servedAlong D (Served.carried (originState D o)) row ≡ Served.carried state
+      → served_along D (Served.carried (origin_state D o)) row ≡ Served.carried state
       → Moved D page (both a (answers D after moved o row state)) after (a.moved ++ moved)
       → Deed D page (both a (answers D after moved o row state))
-  answer-deed a after moved o row state takens silent based serves shift =
+  answer_deed a after moved o row state takens silent based serves shift =
       let b = answers D after moved o row state in
       record {
-        takens = taken-both a b takens (λ l m. none m);
+        takens = taken_both a b takens (λ l m. none m);
         answereds = λ bound m.
-            record { origin = o; row = row; state = state; led = led-both a after moved o row state based serves; binds = Memᴰ.eq_of_singleton (rw silent at m) };
+            record { origin = o; row = row; state = state; led = led_both a after moved o row state based serves; binds = Memᴰ.eq_of_singleton (rw silent at m) };
         moveds = shift;
       }
 
   -- ---- the calls
 
-  open-deed : (answer : List ℕ) (t : Tested) (after : List ℕ) → after ≡ (openedBy D page answer t).page → Deed D page (openDid D after t)
-  open-deed answer (Refused r) after is = still-deed (nothing after) (taking-none (nothing after) refl refl refl is)
-  open-deed answer Passed after is =
-      answer-deed (nothing after) after [] Origin.start [] D.firstBytes (λ l m. none m) refl tt refl (stays is refl)
+  open_deed : (answer : List ℕ) (t : Tested) (after : List ℕ) → after ≡ (opened_by D page answer t).page → Deed D page (open_did D after t)
+  open_deed answer (Refused r) after is = still_deed (nothing after) (taking_none (nothing after) refl refl refl is)
+  open_deed answer Passed after is =
+      answer_deed (nothing after) after [] Origin.start [] D.first_bytes (λ l m. none m) refl tt refl (stays is refl)
 
-  perform-deed : (l request answer : List ℕ) (v : Verdict) (after : List ℕ)
-      → after ≡ (answeredBy D page l request answer (D.withSummary page (nextSummary D (D.summary l) request)) v).page → (past v ≡ true → Fits D page l)
-      → ((state : List ℕ) → v ≡ good state → D.served (D.stateBytes l) request ≡ Served.carried state) → Deed D page (performDid D after l request v)
-  perform-deed l request answer (early r) after is fits serves = still-deed (nothing after) (taking-none (nothing after) refl refl refl is)
-  perform-deed l request answer forged after is fits serves = still-deed (tries D after l) (taking-none (tries D after l) refl refl refl is)
-  perform-deed l request answer stale after is fits serves = still-deed (finds D after l) (taking-none (finds D after l) refl refl refl is)
-  perform-deed l request answer (barred r) after is fits serves = still-deed (takes D after l) (takes-still after l is (fits refl))
-  perform-deed l request answer (good state) after is fits serves =
+  perform_deed : (l request answer : List ℕ) (v : Verdict) (after : List ℕ)
+      → after ≡ (answered_by D page l request answer (D.with_summary page (next_summary D (D.summary l) request)) v).page → (past v ≡ true → Fits D page l)
+      → ((state : List ℕ) → v ≡ good state → D.served (D.state_bytes l) request ≡ Served.carried state) → Deed D page (perform_did D after l request v)
+  perform_deed l request answer (early r) after is fits serves = still_deed (nothing after) (taking_none (nothing after) refl refl refl is)
+  perform_deed l request answer forged after is fits serves = still_deed (tries D after l) (taking_none (tries D after l) refl refl refl is)
+  perform_deed l request answer stale after is fits serves = still_deed (finds D after l) (taking_none (finds D after l) refl refl refl is)
+  perform_deed l request answer (barred r) after is fits serves = still_deed (takes D after l) (takes_still after l is (fits refl))
+  perform_deed l request answer (good state) after is fits serves =
       let a = takes D after l in
-      let t = takes-taken after l (fits refl) l (Memᴰ.head refl) in
+      let t = takes_taken after l (fits refl) l (Memᴰ.head refl) in
       let served = serves state refl in
-      answer-deed a after (request ∷ []) (Origin.from l) (request ∷ []) state (takes-taken after l (fits refl)) refl t.based served
-      (moves l request state (taken-both a (answers D after (request ∷ []) (Origin.from l) (request ∷ []) state) (takes-taken after l (fits refl)) (λ l m. none m) l (Memᴰ.head refl))
-      (led-both a after (request ∷ []) (Origin.from l) (request ∷ []) state t.based served) is refl)
+      answer_deed a after (request ∷ []) (Origin.from l) (request ∷ []) state (takes_taken after l (fits refl)) refl t.based served
+      (moves l request state (taken_both a (answers D after (request ∷ []) (Origin.from l) (request ∷ []) state) (takes_taken after l (fits refl)) (λ l m. none m) l (Memᴰ.head refl))
+      (led_both a after (request ∷ []) (Origin.from l) (request ∷ []) state t.based served) is refl)
 
-  repeat-deed : (l request answer : List ℕ) (v : Verdict) (after : List ℕ) → after ≡ (answeredBy D page l request answer page v).page
+  repeat_deed : (l request answer : List ℕ) (v : Verdict) (after : List ℕ) → after ≡ (answered_by D page l request answer page v).page
       → (past v ≡ true → D.tested l ≡ Passed)
-      → ((state : List ℕ) → v ≡ good state → D.served (D.stateBytes l) request ≡ Served.carried state) → Deed D page (repeatDid D after l request v)
-  repeat-deed l request answer (early r) after is tests serves = still-deed (nothing after) (taking-none (nothing after) refl refl refl is)
-  repeat-deed l request answer forged after is tests serves = still-deed (tries D after l) (taking-none (tries D after l) refl refl refl is)
-  repeat-deed l request answer stale after is tests serves =
-      still-deed (repeatDid D after l request stale) (taking-none (repeatDid D after l request stale) refl refl refl is)
-  repeat-deed l request answer (barred r) after is tests serves =
-      still-deed (repeatDid D after l request (barred r)) (taking-none (repeatDid D after l request (barred r)) refl refl refl is)
-  repeat-deed l request answer (good state) after is tests serves =
-      answer-deed (relies D after l) after [] (Origin.from l) (request ∷ []) state (λ l m. none m) refl (relied-based after l (tests refl)) (serves state refl) (stays is refl)
+      → ((state : List ℕ) → v ≡ good state → D.served (D.state_bytes l) request ≡ Served.carried state) → Deed D page (repeat_did D after l request v)
+  repeat_deed l request answer (early r) after is tests serves = still_deed (nothing after) (taking_none (nothing after) refl refl refl is)
+  repeat_deed l request answer forged after is tests serves = still_deed (tries D after l) (taking_none (tries D after l) refl refl refl is)
+  repeat_deed l request answer stale after is tests serves =
+      still_deed (repeat_did D after l request stale) (taking_none (repeat_did D after l request stale) refl refl refl is)
+  repeat_deed l request answer (barred r) after is tests serves =
+      still_deed (repeat_did D after l request (barred r)) (taking_none (repeat_did D after l request (barred r)) refl refl refl is)
+  repeat_deed l request answer (good state) after is tests serves =
+      answer_deed (relies D after l) after [] (Origin.from l) (request ∷ []) state (λ l m. none m) refl (relied_based after l (tests refl)) (serves state refl) (stays is refl)
 
-  look-still : (l : List ℕ) (v : Verdict) → (past v ≡ true → Fits D page l) → Still D page (lookDid D page l v)
-  look-still l (early r) fits = taking-none (nothing page) refl refl refl refl
-  look-still l forged fits = taking-none (tries D page l) refl refl refl refl
-  look-still l stale fits = taking-none (finds D page l) refl refl refl refl
-  look-still l (barred r) fits = takes-still page l refl (fits refl)
-  look-still l (good state) fits = takes-still page l refl (fits refl)
+  look_still : (l : List ℕ) (v : Verdict) → (past v ≡ true → Fits D page l) → Still D page (look_did D page l v)
+  look_still l (early r) fits = taking_none (nothing page) refl refl refl refl
+  look_still l forged fits = taking_none (tries D page l) refl refl refl refl
+  look_still l stale fits = taking_none (finds D page l) refl refl refl refl
+  look_still l (barred r) fits = takes_still page l refl (fits refl)
+  look_still l (good state) fits = takes_still page l refl (fits refl)
 
-  resume-still : (v : Verdict) (ram disk : Did) → Still D page ram → Still D page disk → Still D page (resumeDid v ram disk)
-  resume-still (good state) ram disk x y = x
-  resume-still (early r) ram disk x y = still_both ram disk x y
-  resume-still forged ram disk x y = still_both ram disk x y
-  resume-still stale ram disk x y = still_both ram disk x y
-  resume-still (barred r) ram disk x y = still_both ram disk x y
+  resume_still : (v : Verdict) (ram disk : Did) → Still D page ram → Still D page disk → Still D page (resume_did v ram disk)
+  resume_still (good state) ram disk x y = x
+  resume_still (early r) ram disk x y = still_both ram disk x y
+  resume_still forged ram disk x y = still_both ram disk x y
+  resume_still stale ram disk x y = still_both ram disk x y
+  resume_still (barred r) ram disk x y = still_both ram disk x y
 
   pub deed : (c : Call) → Deed D page (did D page c)
   unfolding opened performed repeated
-  deed (opens answer) = open-deed answer (openTests D page answer) _ refl
+  deed (opens answer) = open_deed answer (open_tests D page answer) _ refl
   deed (performs l request answer) =
-      perform-deed l request answer (performVerdict D page l request answer) _ refl (perform-fits D page l request answer) (perform-good D page l request answer)
+      perform_deed l request answer (perform_verdict D page l request answer) _ refl (perform_fits D page l request answer) (perform_good D page l request answer)
   deed (repeats l request answer) =
-      repeat-deed l request answer (repeatVerdict D page l request answer) _ refl (repeat-tests D page l request answer) (repeat-good D page l request answer)
-  deed (views l rack) = still-deed _ (look-still l (viewVerdict D page l rack) (view-fits D page l rack))
-  deed (resumes inRam onDisk) =
-      still-deed _ (resume-still (resumeVerdict D page inRam) _ _
-      (look-still inRam (resumeVerdict D page inRam) (resume-fits D page inRam)) (look-still onDisk (resumeVerdict D page onDisk) (resume-fits D page onDisk)))
+      repeat_deed l request answer (repeat_verdict D page l request answer) _ refl (repeat_tests D page l request answer) (repeat_good D page l request answer)
+  deed (views l rack) = still_deed _ (look_still l (view_verdict D page l rack) (view_fits D page l rack))
+  deed (resumes in_ram on_disk) =
+      still_deed _ (resume_still (resume_verdict D page in_ram) _ _
+      (look_still in_ram (resume_verdict D page in_ram) (resume_fits D page in_ram)) (look_still on_disk (resume_verdict D page on_disk) (resume_fits D page on_disk)))
 
   -- a step moves the page as its call does, or was cut with the page of before
-  pub moved-step : (s : Step) → Moved D page (did D page (call_of s)) (pageAfterStep D page s) (movedBy D page s)
-  moved-step (whole c) = (deed c).moveds
-  moved-step (cutBefore c) = stays refl refl
-  moved-step (cutAfter c) = (deed c).moveds
+  pub moved_step : (s : Step) → Moved D page (did D page (call_of s)) (page_after_step D page s) (moved_by D page s)
+  moved_step (whole c) = (deed c).moveds
+  moved_step (cut_before c) = stays refl refl
+  moved_step (cut_after c) = (deed c).moveds

@@ -8,15 +8,15 @@ use mathlib.Core.List.{List, [], ◌∷◌, ◌++◌, Memᴰ}
 use Rattle.records.specs.declared.Tested.{Tested}
 use Rattle.records.specs.declared.Tested.TheVariants.{Passed, Refused}
 use Rattle.answers.specs.Design.{Design}
-use Rattle.answers.specs.Judging.{Verdict, early, forged, stale, barred, good, performVerdict, repeatVerdict, viewVerdict, resumeVerdict}
-use Rattle.answers.specs.Answers.{openTests}
+use Rattle.answers.specs.Judging.{Verdict, early, forged, stale, barred, good, perform_verdict, repeat_verdict, view_verdict, resume_verdict}
+use Rattle.answers.specs.Answers.{open_tests}
 use Rattle.histories.specs.Calls.{Call, opens, performs, repeats, views, resumes}
-use Rattle.histories.specs.Did.{Did, both, openDid, performDid, repeatDid, lookDid, resumeDid, did}
-use Rattle.histories.specs.Runs.{Run, call_of, pageAfter, doneBy, inRun}
+use Rattle.histories.specs.Did.{Did, both, open_did, perform_did, repeat_did, look_did, resume_did, did}
+use Rattle.histories.specs.Runs.{Run, call_of, page_after, done_by, in_run}
 use Rattle.histories.specs.Premises.{Apart, Premises, FewerPremises, HashPremise, FewerHashPremise}
 use Rattle.histories.proofs.Paths.{Within}
-use Rattle.histories.proofs.Steps.{each-implies}
-use Rattle.histories.proofs.Invariant.{neededIn}
+use Rattle.histories.proofs.Steps.{each_implies}
+use Rattle.histories.proofs.Invariant.{needed_in}
 
 -- ---- what a call did
 
@@ -36,67 +36,67 @@ less_both a b x y =
     }
 
 -- all that it hashed and found, or nothing
-less-all : (d : Did) → d.needed ≡ d.hashed → d.relied ≡ d.found → Less d
-less-all d a b = record { messages = λ x m. rw a at m; findings = λ x m. rw b at m }
+less_all : (d : Did) → d.needed ≡ d.hashed → d.relied ≡ d.found → Less d
+less_all d a b = record { messages = λ x m. rw a at m; findings = λ x m. rw b at m }
 
 less_none : (d : Did) → d.needed ≡ [] → d.relied ≡ [] → Less d
 less_none d a b = record { messages = λ x m. absurd (Memᴰ.not-nil (rw a at m)); findings = λ x m. absurd (Memᴰ.not-nil (rw b at m)) }
 
-less-open : (D : Design) (page : List ℕ) (t : Tested) → Less (openDid D page t)
-less-open D page Passed = less-all (openDid D page Passed) refl refl
-less-open D page (Refused r) = less-all (openDid D page (Refused r)) refl refl
+less_open : (D : Design) (page : List ℕ) (t : Tested) → Less (open_did D page t)
+less_open D page Passed = less_all (open_did D page Passed) refl refl
+less_open D page (Refused r) = less_all (open_did D page (Refused r)) refl refl
 
-less-perform : (D : Design) (page l request : List ℕ) (v : Verdict) → Less (performDid D page l request v)
-less-perform D page l request (early r) = less_none (performDid D page l request (early r)) refl refl
-less-perform D page l request forged = less_none (performDid D page l request forged) refl refl
-less-perform D page l request stale = less_none (performDid D page l request stale) refl refl
-less-perform D page l request (barred r) = less-all (performDid D page l request (barred r)) refl refl
-less-perform D page l request (good state) = less-all (performDid D page l request (good state)) refl refl
+less_perform : (D : Design) (page l request : List ℕ) (v : Verdict) → Less (perform_did D page l request v)
+less_perform D page l request (early r) = less_none (perform_did D page l request (early r)) refl refl
+less_perform D page l request forged = less_none (perform_did D page l request forged) refl refl
+less_perform D page l request stale = less_none (perform_did D page l request stale) refl refl
+less_perform D page l request (barred r) = less_all (perform_did D page l request (barred r)) refl refl
+less_perform D page l request (good state) = less_all (perform_did D page l request (good state)) refl refl
 
-less-repeat : (D : Design) (page l request : List ℕ) (v : Verdict) → Less (repeatDid D page l request v)
-less-repeat D page l request (early r) = less_none (repeatDid D page l request (early r)) refl refl
-less-repeat D page l request forged = less_none (repeatDid D page l request forged) refl refl
-less-repeat D page l request stale = less_none (repeatDid D page l request stale) refl refl
-less-repeat D page l request (barred r) = less_none (repeatDid D page l request (barred r)) refl refl
-less-repeat D page l request (good state) = less-all (repeatDid D page l request (good state)) refl refl
+less_repeat : (D : Design) (page l request : List ℕ) (v : Verdict) → Less (repeat_did D page l request v)
+less_repeat D page l request (early r) = less_none (repeat_did D page l request (early r)) refl refl
+less_repeat D page l request forged = less_none (repeat_did D page l request forged) refl refl
+less_repeat D page l request stale = less_none (repeat_did D page l request stale) refl refl
+less_repeat D page l request (barred r) = less_none (repeat_did D page l request (barred r)) refl refl
+less_repeat D page l request (good state) = less_all (repeat_did D page l request (good state)) refl refl
 
-less-look : (D : Design) (page l : List ℕ) (v : Verdict) → Less (lookDid D page l v)
-less-look D page l (early r) = less_none (lookDid D page l (early r)) refl refl
-less-look D page l forged = less_none (lookDid D page l forged) refl refl
-less-look D page l stale = less_none (lookDid D page l stale) refl refl
-less-look D page l (barred r) = less-all (lookDid D page l (barred r)) refl refl
-less-look D page l (good state) = less-all (lookDid D page l (good state)) refl refl
+less_look : (D : Design) (page l : List ℕ) (v : Verdict) → Less (look_did D page l v)
+less_look D page l (early r) = less_none (look_did D page l (early r)) refl refl
+less_look D page l forged = less_none (look_did D page l forged) refl refl
+less_look D page l stale = less_none (look_did D page l stale) refl refl
+less_look D page l (barred r) = less_all (look_did D page l (barred r)) refl refl
+less_look D page l (good state) = less_all (look_did D page l (good state)) refl refl
 
-less-resume : (v : Verdict) (ram disk : Did) → Less ram → Less disk → Less (resumeDid v ram disk)
-less-resume (early r) ram disk x y = less_both ram disk x y
-less-resume forged ram disk x y = less_both ram disk x y
-less-resume stale ram disk x y = less_both ram disk x y
-less-resume (barred r) ram disk x y = less_both ram disk x y
-less-resume (good state) ram disk x y = x
+less_resume : (v : Verdict) (ram disk : Did) → Less ram → Less disk → Less (resume_did v ram disk)
+less_resume (early r) ram disk x y = less_both ram disk x y
+less_resume forged ram disk x y = less_both ram disk x y
+less_resume stale ram disk x y = less_both ram disk x y
+less_resume (barred r) ram disk x y = less_both ram disk x y
+less_resume (good state) ram disk x y = x
 
 less : (D : Design) (page : List ℕ) (c : Call) → Less (did D page c)
-less D page (opens answer) = less-open D _ (openTests D page answer)
-less D page (performs l request answer) = less-perform D _ l request (performVerdict D page l request answer)
-less D page (repeats l request answer) = less-repeat D _ l request (repeatVerdict D page l request answer)
-less D page (views l rack) = less-look D page l (viewVerdict D page l rack)
-less D page (resumes inRam onDisk) =
-    less-resume (resumeVerdict D page inRam) _ _ (less-look D page inRam (resumeVerdict D page inRam)) (less-look D page onDisk (resumeVerdict D page onDisk))
+less D page (opens answer) = less_open D _ (open_tests D page answer)
+less D page (performs l request answer) = less_perform D _ l request (perform_verdict D page l request answer)
+less D page (repeats l request answer) = less_repeat D _ l request (repeat_verdict D page l request answer)
+less D page (views l rack) = less_look D page l (view_verdict D page l rack)
+less D page (resumes in_ram on_disk) =
+    less_resume (resume_verdict D page in_ram) _ _ (less_look D page in_ram (resume_verdict D page in_ram)) (less_look D page on_disk (resume_verdict D page on_disk))
 
 -- ---- a run
 
-pub needed-hashed : (D : Design) (fresh : List ℕ) (run : Run) → Within (neededIn D fresh run) (inRun (λ d. d.hashed) D fresh run)
-needed-hashed D fresh [] = λ x m. m
-needed-hashed D fresh (s ∷ older) =
-    append-within (doneBy D fresh older s).needed (doneBy D fresh older s).hashed (neededIn D fresh older) _ (less D (pageAfter D fresh older) (call_of s)).messages (needed-hashed D fresh older)
+pub needed_hashed : (D : Design) (fresh : List ℕ) (run : Run) → Within (needed_in D fresh run) (in_run (λ d. d.hashed) D fresh run)
+needed_hashed D fresh [] = λ x m. m
+needed_hashed D fresh (s ∷ older) =
+    append-within (done_by D fresh older s).needed (done_by D fresh older s).hashed (needed_in D fresh older) _ (less D (page_after D fresh older) (call_of s)).messages (needed_hashed D fresh older)
 
-pub fewer-hashes : (D : Design) (fresh : List ℕ) (run : Run) → HashPremise D fresh run → FewerHashPremise D fresh run
-fewer-hashes D fresh run clear =
-    let all = needed-hashed D fresh run in
+pub fewer_hashes : (D : Design) (fresh : List ℕ) (run : Run) → HashPremise D fresh run → FewerHashPremise D fresh run
+fewer_hashes D fresh run clear =
+    let all = needed_hashed D fresh run in
     record { apart = λ a b ma mb. clear.apart a b (all a ma) (all b mb); nonzero = λ a ma. clear.nonzero a (all a ma) }
 
 pub fewer : (D : Design) (fresh : List ℕ) (run : Run) → Premises D fresh run → FewerPremises D fresh run
 fewer D fresh run p =
     record {
-      hashes = fewer-hashes D fresh run p.hashes;
-      unforged = each-implies _ _ run (λ older s found l m. found l ((less D (pageAfter D fresh older) (call_of s)).findings l m)) p.unforged;
+      hashes = fewer_hashes D fresh run p.hashes;
+      unforged = each_implies _ _ run (λ older s found l m. found l ((less D (page_after D fresh older) (call_of s)).findings l m)) p.unforged;
     }

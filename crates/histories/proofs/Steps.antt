@@ -7,8 +7,8 @@ use Rattle.histories.specs.Folds.{gathered, AtEach}
 
 module _ {T : Type 0} (holds : List T → T → Type 0) where
   -- of those before a moment
-  pub each-before : (newer older : List T) → AtEach holds (newer ++ older) → AtEach holds older
-  each-before newer older all newest past t e =
+  pub each_before : (newer older : List T) → AtEach holds (newer ++ older) → AtEach holds older
+  each_before newer older all newest past t e =
       all (newer ++ newest) past t (ap (λ (x : List T). newer ++ x) e ∙ sym (append_assoc newer newest (t ∷ past)))
 
   -- of none, and of one step more
@@ -24,8 +24,8 @@ module _ {T : Type 0} (holds : List T → T → Type 0) where
   each_more s older now all (x ∷ newer) past t e = all newer past t cc
 
 -- what holds at each step implies what follows from it
-pub each-implies : {T : Type 0} (a b : List T → T → Type 0) (run : List T) → ((older : List T) (s : T) → a older s → b older s) → AtEach a run → AtEach b run
-each-implies a b run follows all newer older s e = follows older s (all newer older s e)
+pub each_implies : {T : Type 0} (a b : List T → T → Type 0) (run : List T) → ((older : List T) (s : T) → a older s → b older s) → AtEach a run → AtEach b run
+each_implies a b run follows all newer older s e = follows older s (all newer older s e)
 
 module _ {T A : Type 0} (did : List T → T → List A) where
   -- longer lists of steps did no less

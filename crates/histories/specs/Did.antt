@@ -3,12 +3,12 @@
 use Rattle.std.specs.Prelude.{ℕ, List, [], ◌∷◌, ◌++◌}
 use Rattle.records.specs.declared.Tested.{Tested}
 use Rattle.records.specs.declared.Tested.TheVariants.{Passed, Refused}
-use Rattle.bindings.specs.Hashed.{summaryMessage}
+use Rattle.bindings.specs.Hashed.{summary_message}
 use Rattle.answers.specs.Design.{Design}
-use Rattle.answers.specs.Hashing.{boundMessage, bindingOf}
-use Rattle.answers.specs.Rows.{summaryAlong, messagesAlong, Origin, originSummary}
-use Rattle.answers.specs.Judging.{Verdict, early, forged, stale, barred, good, performVerdict, repeatVerdict, viewVerdict, resumeVerdict}
-use Rattle.answers.specs.Answers.{openTests, opened, performed, repeated}
+use Rattle.answers.specs.Hashing.{bound_message, binding_of}
+use Rattle.answers.specs.Rows.{summary_along, messages_along, Origin, origin_summary}
+use Rattle.answers.specs.Judging.{Verdict, early, forged, stale, barred, good, perform_verdict, repeat_verdict, view_verdict, resume_verdict}
+use Rattle.answers.specs.Answers.{open_tests, opened, performed, repeated}
 use Rattle.histories.specs.Calls.{Call, opens, performs, repeats, views, resumes}
 
 pub record Did : Type 0 where
@@ -32,16 +32,16 @@ pub record Did : Type 0 where
 -- ---- messages
 
 -- the two that bind a state to a summary: the state's, and the binding's
-abbrev pub boundMessages : Design → List ℕ → List ℕ → List (List ℕ)
-boundMessages D summary state = D.stateMessage state ∷ boundMessage D summary state ∷ []
+abbrev pub bound_messages : Design → List ℕ → List ℕ → List (List ℕ)
+bound_messages D summary state = D.state_message state ∷ bound_message D summary state ∷ []
 
 -- those of a record
-abbrev pub recordMessages : Design → List ℕ → List (List ℕ)
-recordMessages D l = boundMessages D (D.summary l) (D.stateBytes l)
+abbrev pub record_messages : Design → List ℕ → List (List ℕ)
+record_messages D l = bound_messages D (D.summary l) (D.state_bytes l)
 
 -- those of an answer: of the summaries along the row, and the two that bind the state to the last
-abbrev pub answerMessages : Design → Origin → List (List ℕ) → List ℕ → List (List ℕ)
-answerMessages D o row state = messagesAlong D (originSummary D o) row ++ boundMessages D (summaryAlong D (originSummary D o) row) state
+abbrev pub answer_messages : Design → Origin → List (List ℕ) → List ℕ → List (List ℕ)
+answer_messages D o row state = messages_along D (origin_summary D o) row ++ bound_messages D (summary_along D (origin_summary D o) row) state
 
 -- ---- what there is to do; `page` is the page afterwards
 
@@ -54,32 +54,32 @@ hashes page messages = record { page = page; hashed = messages; found = []; take
 
 -- a record is hashed to make test 7, which fails; or passes
 abbrev pub tries : Design → List ℕ → List ℕ → Did
-tries D page l = hashes page (recordMessages D l)
+tries D page l = hashes page (record_messages D l)
 
 abbrev pub finds : Design → List ℕ → List ℕ → Did
 finds D page l =
-    record { page = page; hashed = recordMessages D l; found = l ∷ []; taken = []; answered = []; moved = []; needed = []; relied = [] }
+    record { page = page; hashed = record_messages D l; found = l ∷ []; taken = []; answered = []; moved = []; needed = []; relied = [] }
 
 -- it passes, and the call goes on with the record; and takes it as current
 abbrev pub relies : Design → List ℕ → List ℕ → Did
 relies D page l =
-    record { page = page; hashed = recordMessages D l; found = l ∷ []; taken = []; answered = []; moved = []; needed = recordMessages D l; relied = l ∷ [] }
+    record { page = page; hashed = record_messages D l; found = l ∷ []; taken = []; answered = []; moved = []; needed = record_messages D l; relied = l ∷ [] }
 
 abbrev pub takes : Design → List ℕ → List ℕ → Did
 takes D page l =
-    record { page = page; hashed = recordMessages D l; found = l ∷ []; taken = l ∷ []; answered = []; moved = []; needed = recordMessages D l; relied = l ∷ [] }
+    record { page = page; hashed = record_messages D l; found = l ∷ []; taken = l ∷ []; answered = []; moved = []; needed = record_messages D l; relied = l ∷ [] }
 
 -- from an origin along a row of requests a state's record is answered, and the page is moved by `moved`
 abbrev pub answers : Design → List ℕ → List (List ℕ) → Origin → List (List ℕ) → List ℕ → Did
 answers D page moved o row state =
     record {
       page = page;
-      hashed = answerMessages D o row state;
+      hashed = answer_messages D o row state;
       found = [];
       taken = [];
-      answered = bindingOf D (summaryAlong D (originSummary D o) row) state ∷ [];
+      answered = binding_of D (summary_along D (origin_summary D o) row) state ∷ [];
       moved = moved;
-      needed = answerMessages D o row state;
+      needed = answer_messages D o row state;
       relied = [];
     }
 
@@ -99,47 +99,47 @@ both a b =
 
 -- ---- the calls
 
-abbrev pub openDid : Design → List ℕ → Tested → Did
-openDid D page (Refused r) = nothing page
-openDid D page Passed = answers D page [] Origin.start [] D.firstBytes
+abbrev pub open_did : Design → List ℕ → Tested → Did
+open_did D page (Refused r) = nothing page
+open_did D page Passed = answers D page [] Origin.start [] D.first_bytes
 
-abbrev pub performDid : Design → List ℕ → List ℕ → List ℕ → Verdict → Did
-performDid D page l request (early r) = nothing page
-performDid D page l request forged = tries D page l
-performDid D page l request stale = finds D page l
-performDid D page l request (barred r) = takes D page l
-performDid D page l request (good state) = both (takes D page l) (answers D page (request ∷ []) (Origin.from l) (request ∷ []) state)
+abbrev pub perform_did : Design → List ℕ → List ℕ → List ℕ → Verdict → Did
+perform_did D page l request (early r) = nothing page
+perform_did D page l request forged = tries D page l
+perform_did D page l request stale = finds D page l
+perform_did D page l request (barred r) = takes D page l
+perform_did D page l request (good state) = both (takes D page l) (answers D page (request ∷ []) (Origin.from l) (request ∷ []) state)
 
 -- repeat hashes the next summary to make test 8
-abbrev pub repeatDid : Design → List ℕ → List ℕ → List ℕ → Verdict → Did
-repeatDid D page l request (early r) = nothing page
-repeatDid D page l request forged = tries D page l
-repeatDid D page l request stale = both (finds D page l) (hashes page (summaryMessage (D.summary l) request ∷ []))
-repeatDid D page l request (barred r) = both (finds D page l) (hashes page (summaryMessage (D.summary l) request ∷ []))
-repeatDid D page l request (good state) = both (relies D page l) (answers D page [] (Origin.from l) (request ∷ []) state)
+abbrev pub repeat_did : Design → List ℕ → List ℕ → List ℕ → Verdict → Did
+repeat_did D page l request (early r) = nothing page
+repeat_did D page l request forged = tries D page l
+repeat_did D page l request stale = both (finds D page l) (hashes page (summary_message (D.summary l) request ∷ []))
+repeat_did D page l request (barred r) = both (finds D page l) (hashes page (summary_message (D.summary l) request ∷ []))
+repeat_did D page l request (good state) = both (relies D page l) (answers D page [] (Origin.from l) (request ∷ []) state)
 
 -- view, and resume with one of its records
-abbrev pub lookDid : Design → List ℕ → List ℕ → Verdict → Did
-lookDid D page l (early r) = nothing page
-lookDid D page l forged = tries D page l
-lookDid D page l stale = finds D page l
-lookDid D page l (barred r) = takes D page l
-lookDid D page l (good state) = takes D page l
+abbrev pub look_did : Design → List ℕ → List ℕ → Verdict → Did
+look_did D page l (early r) = nothing page
+look_did D page l forged = tries D page l
+look_did D page l stale = finds D page l
+look_did D page l (barred r) = takes D page l
+look_did D page l (good state) = takes D page l
 
 -- resume looks at the disk record only where RAM's is not current
-abbrev pub resumeDid : Verdict → Did → Did → Did
-resumeDid (good state) ram disk = ram
-resumeDid (early r) ram disk = both ram disk
-resumeDid forged ram disk = both ram disk
-resumeDid stale ram disk = both ram disk
-resumeDid (barred r) ram disk = both ram disk
+abbrev pub resume_did : Verdict → Did → Did → Did
+resume_did (good state) ram disk = ram
+resume_did (early r) ram disk = both ram disk
+resume_did forged ram disk = both ram disk
+resume_did stale ram disk = both ram disk
+resume_did (barred r) ram disk = both ram disk
 
 abbrev pub did : Design → List ℕ → Call → Did
-did D page (opens answer) = openDid D (opened D page answer).page (openTests D page answer)
+did D page (opens answer) = open_did D (opened D page answer).page (open_tests D page answer)
 did D page (performs l request answer) =
-    performDid D (performed D page l request answer).page l request (performVerdict D page l request answer)
+    perform_did D (performed D page l request answer).page l request (perform_verdict D page l request answer)
 did D page (repeats l request answer) =
-    repeatDid D (repeated D page l request answer).page l request (repeatVerdict D page l request answer)
-did D page (views l rack) = lookDid D page l (viewVerdict D page l rack)
-did D page (resumes inRam onDisk) =
-    resumeDid (resumeVerdict D page inRam) (lookDid D page inRam (resumeVerdict D page inRam)) (lookDid D page onDisk (resumeVerdict D page onDisk))
+    repeat_did D (repeated D page l request answer).page l request (repeat_verdict D page l request answer)
+did D page (views l rack) = look_did D page l (view_verdict D page l rack)
+did D page (resumes in_ram on_disk) =
+    resume_did (resume_verdict D page in_ram) (look_did D page in_ram (resume_verdict D page in_ram)) (look_did D page on_disk (resume_verdict D page on_disk))

@@ -10,7 +10,7 @@ use Rattle.answers.specs.Answers.{refusal, Performed, performed, repeated}
 use Rattle.answers.specs.Written.{front}
 use Rattle.histories.specs.Folds.{AtEach}
 use Rattle.histories.specs.Calls.{performs}
-use Rattle.histories.specs.Runs.{Step, cutBefore, cutAfter, Run, call_of, pageAfter, movedBefore}
+use Rattle.histories.specs.Runs.{Step, cut_before, cut_after, Run, call_of, page_after, moved_before}
 
 -- accepted, with the figure and the page of the uncut call, and its record at the front of this buffer
 pub record Retried (D : Design) (uncut : Performed) (room : List ℕ) (p : Performed) : Type 0 where
@@ -32,17 +32,17 @@ pub record ByRepeat (D : Design) (uncut : Performed) (page l request room : List
 -- for the runs since the cut that `Since` names, with any buffer that has room; `older` is what went before the cut call
 abbrev pub DutyWhere : (Run → Run → Type 0) → Design → List ℕ → Run → List ℕ → List ℕ → List ℕ → Type 0
 DutyWhere Since D fresh older l request answer =
-    (since : Run) (room : List ℕ) → D.recordSize ≤ length room
-    → (Since since (cutBefore (performs l request answer) ∷ older)
-    → ByPerform D (performed D (pageAfter D fresh older) l request answer) (pageAfter D fresh (since ++ cutBefore (performs l request answer) ∷ older)) l request room)
-    × (Since since (cutAfter (performs l request answer) ∷ older)
-    → ByRepeat D (performed D (pageAfter D fresh older) l request answer) (pageAfter D fresh (since ++ cutAfter (performs l request answer) ∷ older)) l request room)
+    (since : Run) (room : List ℕ) → D.record_size ≤ length room
+    → (Since since (cut_before (performs l request answer) ∷ older)
+    → ByPerform D (performed D (page_after D fresh older) l request answer) (page_after D fresh (since ++ cut_before (performs l request answer) ∷ older)) l request room)
+    × (Since since (cut_after (performs l request answer) ∷ older)
+    → ByRepeat D (performed D (page_after D fresh older) l request answer) (page_after D fresh (since ++ cut_after (performs l request answer) ∷ older)) l request room)
 
 -- nothing has moved the page since
 abbrev pub Duty : Design → List ℕ → Run → List ℕ → List ℕ → List ℕ → Type 0
 Duty D fresh older l request answer =
-    (performed D (pageAfter D fresh older) l request answer).number ≡ 0
-    → DutyWhere (λ since cut. movedBefore D fresh (since ++ cut) ≡ movedBefore D fresh cut) D fresh older l request answer
+    (performed D (page_after D fresh older) l request answer).number ≡ 0
+    → DutyWhere (λ since cut. moved_before D fresh (since ++ cut) ≡ moved_before D fresh cut) D fresh older l request answer
 
 -- 01's words: no other perform since
 abbrev pub NoPerform : Run → Type 0
@@ -50,4 +50,4 @@ NoPerform since = AtEach (λ older s. (l request answer : List ℕ) → call_of 
 
 abbrev pub DutyWithoutPerform : Design → List ℕ → Run → List ℕ → List ℕ → List ℕ → Type 0
 DutyWithoutPerform D fresh older l request answer =
-    (performed D (pageAfter D fresh older) l request answer).number ≡ 0 → DutyWhere (λ since cut. NoPerform since) D fresh older l request answer
+    (performed D (page_after D fresh older) l request answer).number ≡ 0 → DutyWhere (λ since cut. NoPerform since) D fresh older l request answer

@@ -3,9 +3,9 @@
 use Rattle.std.specs.Prelude.{◌≡◌, List, [], ◌∷◌, ◌++◌}
 
 -- the state after steps that began with `fresh`
-abbrev pub stateAfter : {S T : Type 0} → (S → T → S) → S → List T → S
-stateAfter step fresh [] = fresh
-stateAfter step fresh (s ∷ older) = step (stateAfter step fresh older) s
+abbrev pub state_after : {S T : Type 0} → (S → T → S) → S → List T → S
+state_after step fresh [] = fresh
+state_after step fresh (s ∷ older) = step (state_after step fresh older) s
 
 -- what the steps did, the newest first, if each did so much after those before it
 abbrev pub gathered : {T A : Type 0} → (List T → T → List A) → List T → List A

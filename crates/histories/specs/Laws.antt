@@ -3,16 +3,16 @@
 -- duty, that the record which a request leads to is of its size. `Edition` is shown to have these in proofs/.
 use Rattle.std.specs.Prelude.{◌≡◌, true, ℕ, List, length}
 use Rattle.records.specs.declared.Tested.TheVariants.{Passed}
-use Rattle.records.specs.Page.{hashSize}
+use Rattle.records.specs.Page.{hash_size}
 use Rattle.answers.specs.Design.{Design, Served}
-use Rattle.answers.specs.Answers.{nextRecord}
+use Rattle.answers.specs.Answers.{next_record}
 
 pub record Laws (D : Design) : Type 0 where
-  pub length-hash : (m : List ℕ) → length (D.hash m) ≡ hashSize
-  pub states-apart : (a b : List ℕ) → D.stateMessage a ≡ D.stateMessage b → a ≡ b
-  pub length-summary : (l : List ℕ) → D.tested l ≡ Passed → length (D.summary l) ≡ hashSize
-  pub right-page : (page s : List ℕ) → D.rightPage page ≡ true → length s ≡ hashSize → D.rightPage (D.withSummary page s) ≡ true
-  pub page-summary : (page s : List ℕ) → D.rightPage page ≡ true → length s ≡ hashSize → D.pageSummary (D.withSummary page s) ≡ s
-  pub page-mac : (page s bound : List ℕ) → D.rightPage page ≡ true → length s ≡ hashSize → D.mac (D.withSummary page s) bound ≡ D.mac page bound
-  pub length-next : (page l request state : List ℕ) → D.tested l ≡ Passed → D.served (D.stateBytes l) request ≡ Served.carried state
-      → length (nextRecord D page l request state) ≡ D.recordSize
+  pub length-hash : (m : List ℕ) → length (D.hash m) ≡ hash_size
+  pub states_apart : (a b : List ℕ) → D.state_message a ≡ D.state_message b → a ≡ b
+  pub length_summary : (l : List ℕ) → D.tested l ≡ Passed → length (D.summary l) ≡ hash_size
+  pub right_page_lem : (page s : List ℕ) → D.right_page page ≡ true → length s ≡ hash_size → D.right_page (D.with_summary page s) ≡ true
+  pub page_summary_lem : (page s : List ℕ) → D.right_page page ≡ true → length s ≡ hash_size → D.page_summary (D.with_summary page s) ≡ s
+  pub page_mac : (page s bound : List ℕ) → D.right_page page ≡ true → length s ≡ hash_size → D.mac (D.with_summary page s) bound ≡ D.mac page bound
+  pub length_next : (page l request state : List ℕ) → D.tested l ≡ Passed → D.served (D.state_bytes l) request ≡ Served.carried state
+      → length (next_record D page l request state) ≡ D.record_size

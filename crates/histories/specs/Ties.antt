@@ -6,7 +6,7 @@ use Rattle.refusals.specs.declared.Refusal.TheVariants.{Authenticator, Current}
 use Rattle.refusals.specs.Numbers.{number_of}
 use Rattle.records.specs.declared.Tested.TheVariants.{Refused}
 use Rattle.answers.specs.Design.{Design, Served}
-use Rattle.answers.specs.Hashing.{bindingIn}
+use Rattle.answers.specs.Hashing.{binding_in}
 use Rattle.answers.specs.Answers.{opened, performed, repeated, viewed, Resumed, resumed}
 use Rattle.answers.specs.Written.{front}
 use Rattle.histories.specs.Calls.{opens, performs, repeats, views, resumes}
@@ -21,10 +21,10 @@ pub record PastTest (test number : ℕ) (x : List ℕ) (listed : List (List ℕ)
   pub before : 0 < number → number ≤ test → listed ≡ []
 
 -- the record that resume hands back
-abbrev pub handedBack : Resumed → List ℕ → List ℕ → List (List ℕ)
-handedBack Resumed.ram inRam onDisk = inRam ∷ []
-handedBack Resumed.disk inRam onDisk = onDisk ∷ []
-handedBack Resumed.neither inRam onDisk = []
+abbrev pub handed_back : Resumed → List ℕ → List ℕ → List (List ℕ)
+handed_back Resumed.ram in_ram on_disk = in_ram ∷ []
+handed_back Resumed.disk in_ram on_disk = on_disk ∷ []
+handed_back Resumed.neither in_ram on_disk = []
 
 -- just where the call is accepted
 pub record WhereAccepted (number : ℕ) (x : List ℕ) (listed : List (List ℕ)) : Type 0 where
@@ -32,17 +32,17 @@ pub record WhereAccepted (number : ℕ) (x : List ℕ) (listed : List (List ℕ)
   pub refused : (number ≡ 0 → ⊥) → listed ≡ []
 
 pub record DidByNumber (D : Design) (page : List ℕ) : Type 0 where
-  pub performFound : (l request answer : List ℕ)
+  pub perform_found : (l request answer : List ℕ)
       → PastTest (number_of Authenticator) (performed D page l request answer).number l (did D page (performs l request answer)).found
-  pub performTaken : (l request answer : List ℕ)
+  pub perform_taken : (l request answer : List ℕ)
       → PastTest (number_of Current) (performed D page l request answer).number l (did D page (performs l request answer)).taken
-  pub performMoved : (l request answer : List ℕ)
+  pub perform_moved : (l request answer : List ℕ)
       → WhereAccepted (performed D page l request answer).number request (did D page (performs l request answer)).moved
-  pub repeatFound : (l request answer : List ℕ)
+  pub repeat_found : (l request answer : List ℕ)
       → PastTest (number_of Authenticator) (repeated D page l request answer).number l (did D page (repeats l request answer)).found
-  pub viewFound : (l : List ℕ) (rack : ℕ) → PastTest (number_of Authenticator) (viewed D page l rack).number l (did D page (views l rack)).found
-  pub viewTaken : (l : List ℕ) (rack : ℕ) → PastTest (number_of Current) (viewed D page l rack).number l (did D page (views l rack)).taken
-  pub resumeTaken : (inRam onDisk : List ℕ) → (did D page (resumes inRam onDisk)).taken ≡ handedBack (resumed D page inRam onDisk) inRam onDisk
+  pub view_found : (l : List ℕ) (rack : ℕ) → PastTest (number_of Authenticator) (viewed D page l rack).number l (did D page (views l rack)).found
+  pub view_taken : (l : List ℕ) (rack : ℕ) → PastTest (number_of Current) (viewed D page l rack).number l (did D page (views l rack)).taken
+  pub resume_taken : (in_ram on_disk : List ℕ) → (did D page (resumes in_ram on_disk)).taken ≡ handed_back (resumed D page in_ram on_disk) in_ram on_disk
 
 -- what this asks of a design: the tests of a record come before 7, and the charge rules behind 8
 pub record NumberLaws (D : Design) : Type 0 where
@@ -52,11 +52,11 @@ pub record NumberLaws (D : Design) : Type 0 where
 -- ---- answered: an accepted call's binding that counts is that of the record at the front of its buffer
 
 pub record AnswersAreCounted (D : Design) (page : List ℕ) : Type 0 where
-  pub byOpen : (answer : List ℕ)
-      → WhereAccepted (opened D page answer).number (bindingIn D (front D (opened D page answer).answer)) (did D page (opens answer)).answered
-  pub byPerform : (l request answer : List ℕ)
-      → WhereAccepted (performed D page l request answer).number (bindingIn D (front D (performed D page l request answer).answer))
+  pub by_open : (answer : List ℕ)
+      → WhereAccepted (opened D page answer).number (binding_in D (front D (opened D page answer).answer)) (did D page (opens answer)).answered
+  pub by_perform : (l request answer : List ℕ)
+      → WhereAccepted (performed D page l request answer).number (binding_in D (front D (performed D page l request answer).answer))
       (did D page (performs l request answer)).answered
-  pub byRepeat : (l request answer : List ℕ)
-      → WhereAccepted (repeated D page l request answer).number (bindingIn D (front D (repeated D page l request answer).answer))
+  pub by_repeat : (l request answer : List ℕ)
+      → WhereAccepted (repeated D page l request answer).number (binding_in D (front D (repeated D page l request answer).answer))
       (did D page (repeats l request answer)).answered

@@ -4,11 +4,11 @@
 -- a step finds is written beside it. Assumes nothing.
 use Rattle.std.specs.Prelude.{◌≡◌, refl, Bool, true, false, cond, ◌&&◌, ℕ, List, [], ◌∷◌, ◌++◌, drop, eqb}
 use Rattle.numbers.specs.Comparing.{same}
-use Rattle.answers.specs.Answers.{opened, performed, repeated, viewed, resumed, resumedNumber}
+use Rattle.answers.specs.Answers.{opened, performed, repeated, viewed, resumed, resumed_number}
 use Rattle.histories.specs.Calls.{Call, opens, performs, repeats, views, resumes}
 use Rattle.histories.specs.Did.{did}
-use Rattle.histories.specs.Runs.{Step, whole, cutBefore, cutAfter, call_of, Run, pageAfterStep, movedBy}
-use Rattle.histories.specs.Toy.{toy, stating, moving, binding, bound, a, b, c, d, e, summary-0, summary-a, summary-ab, summary-ac, summary-acd, summary-acdb, state-0, state-a, state-ab, state-ac, state-acd, state-acdb, rackBy, fresh, page-a, page-ac, page-acd, page-acdb, room, answer_of, record-0, record-a, record-ab, record-ac, record-acd, record-acdb, record-forged, record-short, of-0, of-a, of-ab, of-ac, of-acd, of-acdb, of-forged, computing}
+use Rattle.histories.specs.Runs.{Step, whole, cut_before, cut_after, call_of, Run, page_after_step, moved_by}
+use Rattle.histories.specs.Toy.{toy, stating, moving, binding, bound, a, b, c, d, e, summary_0, summary_a, summary_ab, summary_ac, summary_acd, summary_acdb, state_0, state_a, state_ab, state_ac, state_acd, state_acdb, rack_by, fresh, page_a, page_ac, page_acd, page_acdb, room, answer_of, record_0, record_a, record_ab, record_ac, record_acd, record_acdb, record_forged, record_short, of_0, of_a, of_ab, of_ac, of_acd, of_acdb, of_forged, computing}
 
 -- ---- what a step did, in parts
 
@@ -25,26 +25,26 @@ pub data Part : Type 0 where
   relied : Part
 
 -- the number that a call answers, and what its buffer holds afterwards, if it has one
-abbrev numberBy : List ℕ → Call → ℕ
-numberBy before (opens answer) = (opened toy before answer).number
-numberBy before (performs l request answer) = (performed toy before l request answer).number
-numberBy before (repeats l request answer) = (repeated toy before l request answer).number
-numberBy before (views l rack) = (viewed toy before l rack).number
-numberBy before (resumes inRam onDisk) = resumedNumber (resumed toy before inRam onDisk)
+abbrev number_by : List ℕ → Call → ℕ
+number_by before (opens answer) = (opened toy before answer).number
+number_by before (performs l request answer) = (performed toy before l request answer).number
+number_by before (repeats l request answer) = (repeated toy before l request answer).number
+number_by before (views l rack) = (viewed toy before l rack).number
+number_by before (resumes in_ram on_disk) = resumed_number (resumed toy before in_ram on_disk)
 
-abbrev bufferBy : List ℕ → Call → List (List ℕ)
-bufferBy before (opens answer) = (opened toy before answer).answer ∷ []
-bufferBy before (performs l request answer) = (performed toy before l request answer).answer ∷ []
-bufferBy before (repeats l request answer) = (repeated toy before l request answer).answer ∷ []
-bufferBy before (views l rack) = []
-bufferBy before (resumes inRam onDisk) = []
+abbrev buffer_by : List ℕ → Call → List (List ℕ)
+buffer_by before (opens answer) = (opened toy before answer).answer ∷ []
+buffer_by before (performs l request answer) = (performed toy before l request answer).answer ∷ []
+buffer_by before (repeats l request answer) = (repeated toy before l request answer).answer ∷ []
+buffer_by before (views l rack) = []
+buffer_by before (resumes in_ram on_disk) = []
 
 -- each part as a list of byte lists, on the page before the step
 abbrev doing : List ℕ → Step → Part → List (List ℕ)
-doing before s Part.number = (numberBy before (call_of s) ∷ []) ∷ []
-doing before s Part.page = pageAfterStep toy before s ∷ []
-doing before s Part.buffer = bufferBy before (call_of s)
-doing before s Part.moved = movedBy toy before s
+doing before s Part.number = (number_by before (call_of s) ∷ []) ∷ []
+doing before s Part.page = page_after_step toy before s ∷ []
+doing before s Part.buffer = buffer_by before (call_of s)
+doing before s Part.moved = moved_by toy before s
 doing before s Part.hashed = (did toy before (call_of s)).hashed
 doing before s Part.found = (did toy before (call_of s)).found
 doing before s Part.taken = (did toy before (call_of s)).taken
@@ -99,261 +99,261 @@ Stepped before s k after entries =
 -- ---- the steps
 
 -- 1. open
-pub step-1 : Stepped fresh (whole (opens room)) 0 fresh
-    (has buffer (record-0 ∷ []) ∷ has hashed of-0 ∷ has answered (bound summary-0 state-0 ∷ []) ∷ has needed of-0 ∷ [])
+pub step_1 : Stepped fresh (whole (opens room)) 0 fresh
+    (has buffer (record_0 ∷ []) ∷ has hashed of_0 ∷ has answered (bound summary_0 state_0 ∷ []) ∷ has needed of_0 ∷ [])
 unfolding computing
-step-1 = refl
+step_1 = refl
 
 -- 2. open again, cut
-pub step-2 : Stepped fresh (cutBefore (opens room)) 0 fresh
-    (has buffer (record-0 ∷ []) ∷ has hashed of-0 ∷ has answered (bound summary-0 state-0 ∷ []) ∷ has needed of-0 ∷ [])
+pub step_2 : Stepped fresh (cut_before (opens room)) 0 fresh
+    (has buffer (record_0 ∷ []) ∷ has hashed of_0 ∷ has answered (bound summary_0 state_0 ∷ []) ∷ has needed of_0 ∷ [])
 unfolding computing
-step-2 = refl
+step_2 = refl
 
 -- 3. perform
-pub step-3 : Stepped fresh (whole (performs record-0 a room)) 0 page-a
-    (has buffer (record-a ∷ []) ∷ has moved (a ∷ []) ∷ has hashed (of-0 ++ moving summary-0 a ∷ of-a)
-    ∷ has found (record-0 ∷ []) ∷ has taken (record-0 ∷ []) ∷ has answered (bound summary-a state-a ∷ [])
-    ∷ has needed (of-0 ++ moving summary-0 a ∷ of-a) ∷ has relied (record-0 ∷ []) ∷ [])
+pub step_3 : Stepped fresh (whole (performs record_0 a room)) 0 page_a
+    (has buffer (record_a ∷ []) ∷ has moved (a ∷ []) ∷ has hashed (of_0 ++ moving summary_0 a ∷ of_a)
+    ∷ has found (record_0 ∷ []) ∷ has taken (record_0 ∷ []) ∷ has answered (bound summary_a state_a ∷ [])
+    ∷ has needed (of_0 ++ moving summary_0 a ∷ of_a) ∷ has relied (record_0 ∷ []) ∷ [])
 unfolding computing
-step-3 = refl
+step_3 = refl
 
 -- 4. view
-pub step-4 : Stepped page-a (whole (views record-a 0)) 0 page-a
-    (has hashed of-a ∷ has found (record-a ∷ []) ∷ has taken (record-a ∷ []) ∷ has needed of-a
-    ∷ has relied (record-a ∷ []) ∷ [])
+pub step_4 : Stepped page_a (whole (views record_a 0)) 0 page_a
+    (has hashed of_a ∷ has found (record_a ∷ []) ∷ has taken (record_a ∷ []) ∷ has needed of_a
+    ∷ has relied (record_a ∷ []) ∷ [])
 unfolding computing
-step-4 = refl
+step_4 = refl
 
 -- 5. perform, cut with the page of before: it answers a side branch, and moves nothing
-pub step-5 : Stepped page-a (cutBefore (performs record-a b room)) 0 page-a
-    (has buffer (record-ab ∷ []) ∷ has hashed (of-a ++ moving summary-a b ∷ of-ab) ∷ has found (record-a ∷ [])
-    ∷ has taken (record-a ∷ []) ∷ has answered (bound summary-ab state-ab ∷ [])
-    ∷ has needed (of-a ++ moving summary-a b ∷ of-ab) ∷ has relied (record-a ∷ []) ∷ [])
+pub step_5 : Stepped page_a (cut_before (performs record_a b room)) 0 page_a
+    (has buffer (record_ab ∷ []) ∷ has hashed (of_a ++ moving summary_a b ∷ of_ab) ∷ has found (record_a ∷ [])
+    ∷ has taken (record_a ∷ []) ∷ has answered (bound summary_ab state_ab ∷ [])
+    ∷ has needed (of_a ++ moving summary_a b ∷ of_ab) ∷ has relied (record_a ∷ []) ∷ [])
 unfolding computing
-step-5 = refl
+step_5 = refl
 
 -- 6. the record of the cut call: 8; it is found valid, and not taken
-pub step-6 : Stepped page-a (whole (views record-ab 0)) 8 page-a
-    (has hashed of-ab ∷ has found (record-ab ∷ []) ∷ [])
+pub step_6 : Stepped page_a (whole (views record_ab 0)) 8 page_a
+    (has hashed of_ab ∷ has found (record_ab ∷ []) ∷ [])
 unfolding computing
-step-6 = refl
+step_6 = refl
 
 -- 7. another request instead, cut with the page of after: it moves the page
-pub step-7 : Stepped page-a (cutAfter (performs record-a c room)) 0 page-ac
-    (has buffer (record-ac ∷ []) ∷ has moved (c ∷ []) ∷ has hashed (of-a ++ moving summary-a c ∷ of-ac)
-    ∷ has found (record-a ∷ []) ∷ has taken (record-a ∷ []) ∷ has answered (bound summary-ac state-ac ∷ [])
-    ∷ has needed (of-a ++ moving summary-a c ∷ of-ac) ∷ has relied (record-a ∷ []) ∷ [])
+pub step_7 : Stepped page_a (cut_after (performs record_a c room)) 0 page_ac
+    (has buffer (record_ac ∷ []) ∷ has moved (c ∷ []) ∷ has hashed (of_a ++ moving summary_a c ∷ of_ac)
+    ∷ has found (record_a ∷ []) ∷ has taken (record_a ∷ []) ∷ has answered (bound summary_ac state_ac ∷ [])
+    ∷ has needed (of_a ++ moving summary_a c ∷ of_ac) ∷ has relied (record_a ∷ []) ∷ [])
 unfolding computing
-step-7 = refl
+step_7 = refl
 
 -- 8. repeat answers the record of the cut call; its record is relied on, and not taken
-pub step-8 : Stepped page-ac (whole (repeats record-a c room)) 0 page-ac
-    (has buffer (record-ac ∷ []) ∷ has hashed (of-a ++ moving summary-a c ∷ of-ac) ∷ has found (record-a ∷ [])
-    ∷ has answered (bound summary-ac state-ac ∷ []) ∷ has needed (of-a ++ moving summary-a c ∷ of-ac)
-    ∷ has relied (record-a ∷ []) ∷ [])
+pub step_8 : Stepped page_ac (whole (repeats record_a c room)) 0 page_ac
+    (has buffer (record_ac ∷ []) ∷ has hashed (of_a ++ moving summary_a c ∷ of_ac) ∷ has found (record_a ∷ [])
+    ∷ has answered (bound summary_ac state_ac ∷ []) ∷ has needed (of_a ++ moving summary_a c ∷ of_ac)
+    ∷ has relied (record_a ∷ []) ∷ [])
 unfolding computing
-step-8 = refl
+step_8 = refl
 
 -- 9. a repeat of a request that is not behind the page's summary: 8; it has hashed the next summary
-pub step-9 : Stepped page-ac (whole (repeats record-a b room)) 8 page-ac
-    (has buffer (room ∷ []) ∷ has hashed (of-a ++ moving summary-a b ∷ []) ∷ has found (record-a ∷ []) ∷ [])
+pub step_9 : Stepped page_ac (whole (repeats record_a b room)) 8 page_ac
+    (has buffer (room ∷ []) ∷ has hashed (of_a ++ moving summary_a b ∷ []) ∷ has found (record_a ∷ []) ∷ [])
 unfolding computing
-step-9 = refl
+step_9 = refl
 
 -- 10. perform: the record of the cut call is taken
-pub step-10 : Stepped page-ac (whole (performs record-ac d room)) 0 page-acd
-    (has buffer (record-acd ∷ []) ∷ has moved (d ∷ []) ∷ has hashed (of-ac ++ moving summary-ac d ∷ of-acd)
-    ∷ has found (record-ac ∷ []) ∷ has taken (record-ac ∷ []) ∷ has answered (bound summary-acd state-acd ∷ [])
-    ∷ has needed (of-ac ++ moving summary-ac d ∷ of-acd) ∷ has relied (record-ac ∷ []) ∷ [])
+pub step_10 : Stepped page_ac (whole (performs record_ac d room)) 0 page_acd
+    (has buffer (record_acd ∷ []) ∷ has moved (d ∷ []) ∷ has hashed (of_ac ++ moving summary_ac d ∷ of_acd)
+    ∷ has found (record_ac ∷ []) ∷ has taken (record_ac ∷ []) ∷ has answered (bound summary_acd state_acd ∷ [])
+    ∷ has needed (of_ac ++ moving summary_ac d ∷ of_acd) ∷ has relied (record_ac ∷ []) ∷ [])
 unfolding computing
-step-10 = refl
+step_10 = refl
 
 -- 11. past test 8, and refused behind it: 9; the record is taken
-pub step-11 : Stepped page-acd (whole (performs record-acd e room)) 9 page-acd
-    (has buffer (room ∷ []) ∷ has hashed of-acd ∷ has found (record-acd ∷ []) ∷ has taken (record-acd ∷ [])
-    ∷ has needed of-acd ∷ has relied (record-acd ∷ []) ∷ [])
+pub step_11 : Stepped page_acd (whole (performs record_acd e room)) 9 page_acd
+    (has buffer (room ∷ []) ∷ has hashed of_acd ∷ has found (record_acd ∷ []) ∷ has taken (record_acd ∷ [])
+    ∷ has needed of_acd ∷ has relied (record_acd ∷ []) ∷ [])
 unfolding computing
-step-11 = refl
+step_11 = refl
 
 -- 12. the same, cut with the page of after; it would have been refused, so it answers and moves nothing
-pub step-12 : Stepped page-acd (cutAfter (performs record-acd e room)) 9 page-acd
-    (has buffer (room ∷ []) ∷ has hashed of-acd ∷ has found (record-acd ∷ []) ∷ has taken (record-acd ∷ [])
-    ∷ has needed of-acd ∷ has relied (record-acd ∷ []) ∷ [])
+pub step_12 : Stepped page_acd (cut_after (performs record_acd e room)) 9 page_acd
+    (has buffer (room ∷ []) ∷ has hashed of_acd ∷ has found (record_acd ∷ []) ∷ has taken (record_acd ∷ [])
+    ∷ has needed of_acd ∷ has relied (record_acd ∷ []) ∷ [])
 unfolding computing
-step-12 = refl
+step_12 = refl
 
 -- 13. resume with both records current: the RAM one, and the disk one is not looked at
-pub step-13 : Stepped page-acd (whole (resumes record-acd record-acd)) 1 page-acd
-    (has hashed of-acd ∷ has found (record-acd ∷ []) ∷ has taken (record-acd ∷ []) ∷ has needed of-acd
-    ∷ has relied (record-acd ∷ []) ∷ [])
+pub step_13 : Stepped page_acd (whole (resumes record_acd record_acd)) 1 page_acd
+    (has hashed of_acd ∷ has found (record_acd ∷ []) ∷ has taken (record_acd ∷ []) ∷ has needed of_acd
+    ∷ has relied (record_acd ∷ []) ∷ [])
 unfolding computing
-step-13 = refl
+step_13 = refl
 
 -- 14. resume with an old record in RAM: the disk one
-pub step-14 : Stepped page-acd (whole (resumes record-ac record-acd)) 2 page-acd
-    (has hashed (of-ac ++ of-acd) ∷ has found (record-ac ∷ record-acd ∷ []) ∷ has taken (record-acd ∷ [])
-    ∷ has needed of-acd ∷ has relied (record-acd ∷ []) ∷ [])
+pub step_14 : Stepped page_acd (whole (resumes record_ac record_acd)) 2 page_acd
+    (has hashed (of_ac ++ of_acd) ∷ has found (record_ac ∷ record_acd ∷ []) ∷ has taken (record_acd ∷ [])
+    ∷ has needed of_acd ∷ has relied (record_acd ∷ []) ∷ [])
 unfolding computing
-step-14 = refl
+step_14 = refl
 
 -- 15. view of the forged record: 7; it is hashed, and not found valid
-pub step-15 : Stepped page-acd (whole (views record-forged 0)) 7 page-acd
-    (has hashed of-forged ∷ [])
+pub step_15 : Stepped page_acd (whole (views record_forged 0)) 7 page_acd
+    (has hashed of_forged ∷ [])
 unfolding computing
-step-15 = refl
+step_15 = refl
 
 -- 16. a request that is a byte short: 6
-pub step-16 : Stepped page-acd (whole (performs record-acd (drop 1 d) room)) 6 page-acd
+pub step_16 : Stepped page_acd (whole (performs record_acd (drop 1 d) room)) 6 page_acd
     (has buffer (room ∷ []) ∷ [])
 unfolding computing
-step-16 = refl
+step_16 = refl
 
 -- 17. perform on the forged record: 7
-pub step-17 : Stepped page-acd (whole (performs record-forged d room)) 7 page-acd
-    (has buffer (room ∷ []) ∷ has hashed of-forged ∷ [])
+pub step_17 : Stepped page_acd (whole (performs record_forged d room)) 7 page_acd
+    (has buffer (room ∷ []) ∷ has hashed of_forged ∷ [])
 unfolding computing
-step-17 = refl
+step_17 = refl
 
 -- 18. a repeat with a buffer that is a byte short: 2
-pub step-18 : Stepped page-acd (whole (repeats record-ac d (drop 1 room))) 2 page-acd
+pub step_18 : Stepped page_acd (whole (repeats record_ac d (drop 1 room))) 2 page_acd
     (has buffer (drop 1 room ∷ []) ∷ [])
 unfolding computing
-step-18 = refl
+step_18 = refl
 
 -- 19. repeat of the forged record: 7
-pub step-19 : Stepped page-acd (whole (repeats record-forged d room)) 7 page-acd
-    (has buffer (room ∷ []) ∷ has hashed of-forged ∷ [])
+pub step_19 : Stepped page_acd (whole (repeats record_forged d room)) 7 page_acd
+    (has buffer (room ∷ []) ∷ has hashed of_forged ∷ [])
 unfolding computing
-step-19 = refl
+step_19 = refl
 
 -- 20. resume with two records that will not do: neither
-pub step-20 : Stepped page-acd (whole (resumes record-short record-forged)) 0 page-acd
-    (has hashed of-forged ∷ [])
+pub step_20 : Stepped page_acd (whole (resumes record_short record_forged)) 0 page_acd
+    (has hashed of_forged ∷ [])
 unfolding computing
-step-20 = refl
+step_20 = refl
 
 -- 21. resume, cut, with the forged record in RAM: the disk one
-pub step-21 : Stepped page-acd (cutAfter (resumes record-forged record-acd)) 2 page-acd
-    (has hashed (of-forged ++ of-acd) ∷ has found (record-acd ∷ []) ∷ has taken (record-acd ∷ [])
-    ∷ has needed of-acd ∷ has relied (record-acd ∷ []) ∷ [])
+pub step_21 : Stepped page_acd (cut_after (resumes record_forged record_acd)) 2 page_acd
+    (has hashed (of_forged ++ of_acd) ∷ has found (record_acd ∷ []) ∷ has taken (record_acd ∷ [])
+    ∷ has needed of_acd ∷ has relied (record_acd ∷ []) ∷ [])
 unfolding computing
-step-21 = refl
+step_21 = refl
 
 -- 22. the side branch's record, which stays behind: 8
-pub step-22 : Stepped page-acd (whole (performs record-ab d room)) 8 page-acd
-    (has buffer (room ∷ []) ∷ has hashed of-ab ∷ has found (record-ab ∷ []) ∷ [])
+pub step_22 : Stepped page_acd (whole (performs record_ab d room)) 8 page_acd
+    (has buffer (room ∷ []) ∷ has hashed of_ab ∷ has found (record_ab ∷ []) ∷ [])
 unfolding computing
-step-22 = refl
+step_22 = refl
 
 -- 23. a record that is a byte short: 3
-pub step-23 : Stepped page-acd (whole (views record-short 0)) 3 page-acd []
+pub step_23 : Stepped page_acd (whole (views record_short 0)) 3 page_acd []
 unfolding computing
-step-23 = refl
+step_23 = refl
 
 -- 24. open on a page that is not fresh: 13
-pub step-24 : Stepped page-acd (whole (opens room)) 13 page-acd
+pub step_24 : Stepped page_acd (whole (opens room)) 13 page_acd
     (has buffer (room ∷ []) ∷ [])
 unfolding computing
-step-24 = refl
+step_24 = refl
 
 -- 25. a repeat, accepted and cut
-pub step-25 : Stepped page-acd (cutBefore (repeats record-ac d room)) 0 page-acd
-    (has buffer (record-acd ∷ []) ∷ has hashed (of-ac ++ moving summary-ac d ∷ of-acd) ∷ has found (record-ac ∷ [])
-    ∷ has answered (bound summary-acd state-acd ∷ []) ∷ has needed (of-ac ++ moving summary-ac d ∷ of-acd)
-    ∷ has relied (record-ac ∷ []) ∷ [])
+pub step_25 : Stepped page_acd (cut_before (repeats record_ac d room)) 0 page_acd
+    (has buffer (record_acd ∷ []) ∷ has hashed (of_ac ++ moving summary_ac d ∷ of_acd) ∷ has found (record_ac ∷ [])
+    ∷ has answered (bound summary_acd state_acd ∷ []) ∷ has needed (of_ac ++ moving summary_ac d ∷ of_acd)
+    ∷ has relied (record_ac ∷ []) ∷ [])
 unfolding computing
-step-25 = refl
+step_25 = refl
 
 -- 26. a view, cut
-pub step-26 : Stepped page-acd (cutBefore (views record-acd 0)) 0 page-acd
-    (has hashed of-acd ∷ has found (record-acd ∷ []) ∷ has taken (record-acd ∷ []) ∷ has needed of-acd
-    ∷ has relied (record-acd ∷ []) ∷ [])
+pub step_26 : Stepped page_acd (cut_before (views record_acd 0)) 0 page_acd
+    (has hashed of_acd ∷ has found (record_acd ∷ []) ∷ has taken (record_acd ∷ []) ∷ has needed of_acd
+    ∷ has relied (record_acd ∷ []) ∷ [])
 unfolding computing
-step-26 = refl
+step_26 = refl
 
 -- 27. perform, cut with the page of before
-pub step-27 : Stepped page-acd (cutBefore (performs record-acd b room)) 0 page-acd
-    (has buffer (record-acdb ∷ []) ∷ has hashed (of-acd ++ moving summary-acd b ∷ of-acdb)
-    ∷ has found (record-acd ∷ []) ∷ has taken (record-acd ∷ []) ∷ has answered (bound summary-acdb state-acdb ∷ [])
-    ∷ has needed (of-acd ++ moving summary-acd b ∷ of-acdb) ∷ has relied (record-acd ∷ []) ∷ [])
+pub step_27 : Stepped page_acd (cut_before (performs record_acd b room)) 0 page_acd
+    (has buffer (record_acdb ∷ []) ∷ has hashed (of_acd ++ moving summary_acd b ∷ of_acdb)
+    ∷ has found (record_acd ∷ []) ∷ has taken (record_acd ∷ []) ∷ has answered (bound summary_acdb state_acdb ∷ [])
+    ∷ has needed (of_acd ++ moving summary_acd b ∷ of_acdb) ∷ has relied (record_acd ∷ []) ∷ [])
 unfolding computing
-step-27 = refl
+step_27 = refl
 
 -- 28. so repeat is refused: 8
-pub step-28 : Stepped page-acd (whole (repeats record-acd b room)) 8 page-acd
-    (has buffer (room ∷ []) ∷ has hashed (of-acd ++ moving summary-acd b ∷ []) ∷ has found (record-acd ∷ []) ∷ [])
+pub step_28 : Stepped page_acd (whole (repeats record_acd b room)) 8 page_acd
+    (has buffer (room ∷ []) ∷ has hashed (of_acd ++ moving summary_acd b ∷ []) ∷ has found (record_acd ∷ []) ∷ [])
 unfolding computing
-step-28 = refl
+step_28 = refl
 
 -- 29. and the same perform is accepted, and answers the record of the cut call
-pub step-29 : Stepped page-acd (whole (performs record-acd b room)) 0 page-acdb
-    (has buffer (record-acdb ∷ []) ∷ has moved (b ∷ []) ∷ has hashed (of-acd ++ moving summary-acd b ∷ of-acdb)
-    ∷ has found (record-acd ∷ []) ∷ has taken (record-acd ∷ []) ∷ has answered (bound summary-acdb state-acdb ∷ [])
-    ∷ has needed (of-acd ++ moving summary-acd b ∷ of-acdb) ∷ has relied (record-acd ∷ []) ∷ [])
+pub step_29 : Stepped page_acd (whole (performs record_acd b room)) 0 page_acdb
+    (has buffer (record_acdb ∷ []) ∷ has moved (b ∷ []) ∷ has hashed (of_acd ++ moving summary_acd b ∷ of_acdb)
+    ∷ has found (record_acd ∷ []) ∷ has taken (record_acd ∷ []) ∷ has answered (bound summary_acdb state_acdb ∷ [])
+    ∷ has needed (of_acd ++ moving summary_acd b ∷ of_acdb) ∷ has relied (record_acd ∷ []) ∷ [])
 unfolding computing
-step-29 = refl
+step_29 = refl
 
 -- 30. which is current then
-pub step-30 : Stepped page-acdb (whole (views record-acdb 0)) 0 page-acdb
-    (has hashed of-acdb ∷ has found (record-acdb ∷ []) ∷ has taken (record-acdb ∷ []) ∷ has needed of-acdb
-    ∷ has relied (record-acdb ∷ []) ∷ [])
+pub step_30 : Stepped page_acdb (whole (views record_acdb 0)) 0 page_acdb
+    (has hashed of_acdb ∷ has found (record_acdb ∷ []) ∷ has taken (record_acdb ∷ []) ∷ has needed of_acdb
+    ∷ has relied (record_acdb ∷ []) ∷ [])
 unfolding computing
-step-30 = refl
+step_30 = refl
 
 -- 31. resume with it in RAM, and the one before it on disk: the RAM one
-pub step-31 : Stepped page-acdb (whole (resumes record-acdb record-acd)) 1 page-acdb
-    (has hashed of-acdb ∷ has found (record-acdb ∷ []) ∷ has taken (record-acdb ∷ []) ∷ has needed of-acdb
-    ∷ has relied (record-acdb ∷ []) ∷ [])
+pub step_31 : Stepped page_acdb (whole (resumes record_acdb record_acd)) 1 page_acdb
+    (has hashed of_acdb ∷ has found (record_acdb ∷ []) ∷ has taken (record_acdb ∷ []) ∷ has needed of_acdb
+    ∷ has relied (record_acdb ∷ []) ∷ [])
 unfolding computing
-step-31 = refl
+step_31 = refl
 
 -- ---- a repeat that is refused behind test 8
 
 -- its record has the right authenticator for a state that no request gave, so no run that meets the premises has such a repeat; what it does
 -- is looked at by itself
-abbrev state-other : List ℕ
-state-other = rackBy 100 90 90 0
+abbrev state_other : List ℕ
+state_other = rack_by 100 90 90 0
 
-pub barred-repeat : Stepped page-ac (whole (repeats (answer_of summary-a state-other) c room)) 9 page-ac
-    (has buffer (room ∷ []) ∷ has hashed (stating state-other ∷ binding summary-a state-other ∷ moving summary-a c ∷ [])
-    ∷ has found (answer_of summary-a state-other ∷ []) ∷ [])
+pub barred_repeat : Stepped page_ac (whole (repeats (answer_of summary_a state_other) c room)) 9 page_ac
+    (has buffer (room ∷ []) ∷ has hashed (stating state_other ∷ binding summary_a state_other ∷ moving summary_a c ∷ [])
+    ∷ has found (answer_of summary_a state_other ∷ []) ∷ [])
 unfolding computing
-barred-repeat = refl
+barred_repeat = refl
 
 -- ---- the run, the newest step first
 
 abbrev pub run : Run
 run =
-    whole (resumes record-acdb record-acd)
-    ∷ whole (views record-acdb 0)
-    ∷ whole (performs record-acd b room)
-    ∷ whole (repeats record-acd b room)
-    ∷ cutBefore (performs record-acd b room)
-    ∷ cutBefore (views record-acd 0)
-    ∷ cutBefore (repeats record-ac d room)
+    whole (resumes record_acdb record_acd)
+    ∷ whole (views record_acdb 0)
+    ∷ whole (performs record_acd b room)
+    ∷ whole (repeats record_acd b room)
+    ∷ cut_before (performs record_acd b room)
+    ∷ cut_before (views record_acd 0)
+    ∷ cut_before (repeats record_ac d room)
     ∷ whole (opens room)
-    ∷ whole (views record-short 0)
-    ∷ whole (performs record-ab d room)
-    ∷ cutAfter (resumes record-forged record-acd)
-    ∷ whole (resumes record-short record-forged)
-    ∷ whole (repeats record-forged d room)
-    ∷ whole (repeats record-ac d (drop 1 room))
-    ∷ whole (performs record-forged d room)
-    ∷ whole (performs record-acd (drop 1 d) room)
-    ∷ whole (views record-forged 0)
-    ∷ whole (resumes record-ac record-acd)
-    ∷ whole (resumes record-acd record-acd)
-    ∷ cutAfter (performs record-acd e room)
-    ∷ whole (performs record-acd e room)
-    ∷ whole (performs record-ac d room)
-    ∷ whole (repeats record-a b room)
-    ∷ whole (repeats record-a c room)
-    ∷ cutAfter (performs record-a c room)
-    ∷ whole (views record-ab 0)
-    ∷ cutBefore (performs record-a b room)
-    ∷ whole (views record-a 0)
-    ∷ whole (performs record-0 a room)
-    ∷ cutBefore (opens room)
+    ∷ whole (views record_short 0)
+    ∷ whole (performs record_ab d room)
+    ∷ cut_after (resumes record_forged record_acd)
+    ∷ whole (resumes record_short record_forged)
+    ∷ whole (repeats record_forged d room)
+    ∷ whole (repeats record_ac d (drop 1 room))
+    ∷ whole (performs record_forged d room)
+    ∷ whole (performs record_acd (drop 1 d) room)
+    ∷ whole (views record_forged 0)
+    ∷ whole (resumes record_ac record_acd)
+    ∷ whole (resumes record_acd record_acd)
+    ∷ cut_after (performs record_acd e room)
+    ∷ whole (performs record_acd e room)
+    ∷ whole (performs record_ac d room)
+    ∷ whole (repeats record_a b room)
+    ∷ whole (repeats record_a c room)
+    ∷ cut_after (performs record_a c room)
+    ∷ whole (views record_ab 0)
+    ∷ cut_before (performs record_a b room)
+    ∷ whole (views record_a 0)
+    ∷ whole (performs record_0 a room)
+    ∷ cut_before (opens room)
     ∷ whole (opens room)
     ∷ []

@@ -11,12 +11,12 @@ use native.Mathlib.Nat.{lt_of_not-le}
 use native.Mathlib.Decide.{dec_le}
 use Rattle.sha256.specs.Parsing.{block}
 use Rattle.sha256.specs.Computation.{hashes, sha256}
-use Rattle.sha256.specs.Continued.{sha256After}
-use Rattle.sha256.proofs.ContinuedLaws.{sha256-after}
+use Rattle.sha256.specs.Continued.{sha256_after}
+use Rattle.sha256.proofs.ContinuedLaws.{sha256_after_lem}
 use Rattle.sha256.proofs.DigestLaws.{length-sha256}
 use Rattle.hmac.specs.declared.Prepared.{Prepared}
 use Rattle.hmac.specs.Hmac.{B, L, K₀, ipad, opad, ◌⊕◌, hmac}
-use Rattle.hmac.specs.Preparation.{after_block, halves, preparedOf, macOf}
+use Rattle.hmac.specs.Preparation.{after_block, halves, prepared_of, mac_of}
 use Rattle.hmac.proofs.Pads.{xor-repeated}
 
 -- ---- K₀
@@ -33,9 +33,9 @@ module _ (K : List ℕ) where
   by_size b c same longer = ap₂ (λ (s t : Bool). cond s K (cond t hashed zeroed)) same longer
 
   -- a key of at most a block: zeros up to a block, none where it is one
-  pub K₀-short : length K ≤ B → K₀ K ≡ K ++ replicate (B - length K) 0
+  pub K₀_short : length K ≤ B → K₀ K ≡ K ++ replicate (B - length K) 0
   unfolding zeroed
-  K₀-short short = go (eqb (length K) B) refl
+  K₀_short short = go (eqb (length K) B) refl
     where
       go : (b : Bool) → eqb (length K) B ≡ b → K₀ K ≡ K ++ replicate (B - length K) 0
       go true same =
@@ -51,35 +51,35 @@ module _ (K : List ℕ) where
       by_size false true (ne_eqb (length K) B other) (lt-ltb B (length K) long)
       ∙ ap (λ (n : ℕ). sha256 K ++ replicate (B - n) 0) (sym (length-sha256 K))
 
-pub K₀-long : (K : List ℕ) → B < length K → K₀ K ≡ K₀ (sha256 K)
-K₀-long K long = K₀-hashed K long ∙ sym (K₀-short (sha256 K) (omega (arith, length-sha256 K)))
+pub K₀_long : (K : List ℕ) → B < length K → K₀ K ≡ K₀ (sha256 K)
+K₀_long K long = K₀-hashed K long ∙ sym (K₀_short (sha256 K) (omega (arith, length-sha256 K)))
 
 -- K₀ is a block
-length-zeroed : (l : List ℕ) → length l ≤ B → length (l ++ replicate (B - length l) 0) ≡ B
-length-zeroed l short = omega (arith, length-append l (replicate (B - length l) 0), length-replicate {A = ℕ} (B - length l) 0)
+length_zeroed : (l : List ℕ) → length l ≤ B → length (l ++ replicate (B - length l) 0) ≡ B
+length_zeroed l short = omega (arith, length-append l (replicate (B - length l) 0), length-replicate {A = ℕ} (B - length l) 0)
 
 pub length-K₀ : (K : List ℕ) → length (K₀ K) ≡ B
 length-K₀ K =
     elim (dec_le (length K) B) [
-      | yes short ↦ ap length (K₀-short K short) ∙ length-zeroed K short
-      | no long ↦ ap length (K₀-hashed K (lt_of_not-le long)) ∙ length-zeroed (sha256 K) (omega (arith, length-sha256 K))
+      | yes short ↦ ap length (K₀_short K short) ∙ length_zeroed K short
+      | no long ↦ ap length (K₀-hashed K (lt_of_not-le long)) ∙ length_zeroed (sha256 K) (omega (arith, length-sha256 K))
     ]
 
 -- ---- preparing a key
 
 -- a key of at most a block, from its two pads
-pub prepared-short : (K i o : List ℕ) → length K ≤ B → i ≡ after_block ((K ++ replicate (B - length K) 0) ⊕ ipad)
-    → o ≡ after_block ((K ++ replicate (B - length K) 0) ⊕ opad) → halves i o ≡ preparedOf K
-unfolding preparedOf
-prepared-short K i o short p q =
-    let e = sym (K₀-short K short) in
+pub prepared_short : (K i o : List ℕ) → length K ≤ B → i ≡ after_block ((K ++ replicate (B - length K) 0) ⊕ ipad)
+    → o ≡ after_block ((K ++ replicate (B - length K) 0) ⊕ opad) → halves i o ≡ prepared_of K
+unfolding prepared_of
+prepared_short K i o short p q =
+    let e = sym (K₀_short K short) in
     ap₂ halves (p ∙ ap (λ (l : List ℕ). after_block (l ⊕ ipad)) e) (q ∙ ap (λ (l : List ℕ). after_block (l ⊕ opad)) e)
 
 -- a longer one is prepared as its hash is
-pub prepared-long : (K : List ℕ) → B < length K → preparedOf (sha256 K) ≡ preparedOf K
-unfolding preparedOf
-prepared-long K long =
-    ap (λ (l : List ℕ). halves (after_block (l ⊕ ipad)) (after_block (l ⊕ opad))) (sym (K₀-long K long))
+pub prepared_long : (K : List ℕ) → B < length K → prepared_of (sha256 K) ≡ prepared_of K
+unfolding prepared_of
+prepared_long K long =
+    ap (λ (l : List ℕ). halves (after_block (l ⊕ ipad)) (after_block (l ⊕ opad))) (sym (K₀_long K long))
 
 -- two empty pieces behind a message
 pub no_more : (l : List ℕ) → l ++ [] ++ [] ≡ l
@@ -88,27 +88,27 @@ no_more l = append-nil (l ++ []) ∙ append-nil l
 -- ---- the MAC
 
 -- a hash behind a block
-behind : (l m : List ℕ) → length l ≡ B → sha256 (l ++ m) ≡ sha256After (after_block l) 1 m
+behind : (l m : List ℕ) → length l ≡ B → sha256 (l ++ m) ≡ sha256_after (after_block l) 1 m
 unfolding after_block hashes
-behind l m one = sha256-after l m 1 one
+behind l m one = sha256_after_lem l m 1 one
 
 length-pad : (K : List ℕ) (p : ℕ) → length (K₀ K ⊕ replicate B p) ≡ B
 length-pad K p =
     ap length (xor-repeated (K₀ K) B p (omega (arith, length-K₀ K))) ∙ length-map (K₀ K) _ ∙ length-K₀ K
 
-pub mac-prepared : (K m : List ℕ) → macOf (preparedOf K) m ≡ hmac K m
-unfolding macOf preparedOf hmac
-mac-prepared K m =
-    ap (sha256After (after_block (K₀ K ⊕ opad)) 1) (sym (behind (K₀ K ⊕ ipad) m (length-pad K 0x36)))
+pub mac_prepared : (K m : List ℕ) → mac_of (prepared_of K) m ≡ hmac K m
+unfolding mac_of prepared_of hmac
+mac_prepared K m =
+    ap (sha256_after (after_block (K₀ K ⊕ opad)) 1) (sym (behind (K₀ K ⊕ ipad) m (length-pad K 0x36)))
     ∙ sym (behind (K₀ K ⊕ opad) (sha256 (K₀ K ⊕ ipad ++ m)) (length-pad K 0x5c))
 
 -- the MAC under a key of at most a block, from its two pads as they are worked out
-pub hmac-short : (K m i d o r : List ℕ) → length K ≤ B → i ≡ after_block ((K ++ replicate (B - length K) 0) ⊕ ipad) → d ≡ sha256After i 1 m
-    → o ≡ after_block ((K ++ replicate (B - length K) 0) ⊕ opad) → r ≡ sha256After o 1 d → r ≡ hmac K m
-unfolding macOf
-hmac-short K m i d o r short p q s t =
-    t ∙ ap (sha256After o 1) q ∙ ap (λ (k : Prepared). macOf k m) (prepared-short K i o short p s) ∙ mac-prepared K m
+pub hmac_short : (K m i d o r : List ℕ) → length K ≤ B → i ≡ after_block ((K ++ replicate (B - length K) 0) ⊕ ipad) → d ≡ sha256_after i 1 m
+    → o ≡ after_block ((K ++ replicate (B - length K) 0) ⊕ opad) → r ≡ sha256_after o 1 d → r ≡ hmac K m
+unfolding mac_of
+hmac_short K m i d o r short p q s t =
+    t ∙ ap (sha256_after o 1) q ∙ ap (λ (k : Prepared). mac_of k m) (prepared_short K i o short p s) ∙ mac_prepared K m
 
 -- under a longer one: as under its hash
-pub hmac-long : (K m : List ℕ) → B < length K → hmac (sha256 K) m ≡ hmac K m
-hmac-long K m long = sym (mac-prepared (sha256 K) m) ∙ ap (λ (k : Prepared). macOf k m) (prepared-long K long) ∙ mac-prepared K m
+pub hmac_long : (K m : List ℕ) → B < length K → hmac (sha256 K) m ≡ hmac K m
+hmac_long K m long = sym (mac_prepared (sha256 K) m) ∙ ap (λ (k : Prepared). mac_of k m) (prepared_long K long) ∙ mac_prepared K m

@@ -1,9 +1,9 @@
 // HMAC-SHA-256 (FIPS 198-1) of a message that lies in two pieces. Each pad is worked out as the hash value that its block
 // leads to, so that the message is never copied; `prepare` does both ahead, and the key then serves several messages.
 ghost use Rattle.std.specs.Prelude.{◌≡◌, ◌++◌, ◌+◌, ◌-◌, ◌≤◌, length, replicate};
-ghost use Rattle.sha256.specs.Continued.{sha256After};
+ghost use Rattle.sha256.specs.Continued.{sha256_after};
 ghost use Rattle.hmac.specs.Hmac.{B, ipad, opad, ◌⊕◌, hmac};
-ghost use Rattle.hmac.specs.Preparation.{after_block, halves, preparedOf, macOf};
+ghost use Rattle.hmac.specs.Preparation.{after_block, halves, prepared_of, mac_of};
 
 use sha256::{absorb, initial, sha256, sha256_after};
 
@@ -32,7 +32,7 @@ fn after_pad(key: &[u8], pad: u8) -> [u32; 8]
 // What a key of at most a block comes to.
 pub fn prepare(key: &[u8]) -> Prepared
     requires { length key.now ≤ B }
-    ensures { result ≡ preparedOf key.now }
+    ensures { result ≡ prepared_of key.now }
 {
     let inner = after_pad(key, 0x36);
     let outer = after_pad(key, 0x5c);
@@ -42,7 +42,7 @@ pub fn prepare(key: &[u8]) -> Prepared
 // The hash of at most 55 bytes, a and b end to end, behind a pad's block, from the hash value after that.
 fn behind(h: &[u32; 8], a: &[u8], b: &[u8]) -> [u8; 32]
     requires { length a.now + length b.now ≤ 55 }
-    ensures { result ≡ sha256After h.now 1 (a.now ++ b.now) }
+    ensures { result ≡ sha256_after h.now 1 (a.now ++ b.now) }
 {
     sha256_after(*h, 1, a, b, &b[..0])
 }
@@ -51,7 +51,7 @@ fn behind(h: &[u32; 8], a: &[u8], b: &[u8]) -> [u8; 32]
 // is one block with its padding. The halves of the key are lent, so that no call copies them.
 pub fn mac(inner: &[u32; 8], outer: &[u32; 8], a: &[u8], b: &[u8]) -> [u8; 32]
     requires { length a.now + length b.now ≤ 55 }
-    ensures { result ≡ macOf (halves inner.now outer.now) (a.now ++ b.now) }
+    ensures { result ≡ mac_of (halves inner.now outer.now) (a.now ++ b.now) }
 {
     let d = behind(inner, a, b);
     behind(outer, &d, &b[..0])

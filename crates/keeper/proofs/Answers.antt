@@ -12,17 +12,17 @@ use Rattle.answers.specs.Design.{Figures}
 use Rattle.answers.specs.Answers.{Outcome, Performed, Viewed, Resumed}
 use Rattle.opens.specs.declared.OpenAnswer.{OpenAnswer}
 use Rattle.opens.specs.declared.OpenAnswer.TheVariants.{Opened, Refused as RefusedOpen}
-use Rattle.opens.specs.Told.{openNumberTold, toldOpen}
+use Rattle.opens.specs.Told.{open_number_told, told_open}
 use Rattle.calls.specs.declared.PerformAnswer.{PerformAnswer}
 use Rattle.calls.specs.declared.PerformAnswer.TheVariants.{Done, Refused}
-use Rattle.calls.specs.Told.{numberTold, storedTold, told}
+use Rattle.calls.specs.Told.{number_told, stored_told, told}
 use Rattle.views.specs.declared.ViewAnswer.{ViewAnswer}
 use Rattle.views.specs.declared.ViewAnswer.TheVariants.{Seen, Refused as RefusedView}
-use Rattle.views.specs.Told.{viewNumberTold, figuresTold, toldView}
+use Rattle.views.specs.Told.{view_number_told, figures_told, told_view}
 
 -- the refusal of a number
-refusalOf : ℕ → Refusal
-refusalOf k =
+refusal_of : ℕ → Refusal
+refusal_of k =
     cond (eqb k 1) Page
     (cond (eqb k 2) Answer
     (cond (eqb k 3) Record
@@ -36,8 +36,8 @@ refusalOf k =
     (cond (eqb k 11) Limit
     (cond (eqb k 12) Total Fresh)))))))))))
 
-back : (r : Refusal) → refusalOf (number_of r) ≡ r
-unfolding refusalOf
+back : (r : Refusal) → refusal_of (number_of r) ≡ r
+unfolding refusal_of
 back Page = refl
 back Answer = refl
 back Record = refl
@@ -54,7 +54,7 @@ back Fresh = refl
 
 -- a number is of one refusal alone, and 0 is of none
 pub numbers_apart : (r s : Refusal) → number_of r ≡ number_of s → r ≡ s
-numbers_apart r s e = sym (back r) ∙ ap refusalOf e ∙ back s
+numbers_apart r s e = sym (back r) ∙ ap refusal_of e ∙ back s
 
 no_zero : (r : Refusal) → number_of r ≡ 0 → ⊥
 no_zero Page e = absurd (omega arith)
@@ -73,37 +73,37 @@ no_zero Fresh e = absurd (omega arith)
 
 -- ---- the three enums
 
-open-answers : (a b : OpenAnswer) → openNumberTold a ≡ openNumberTold b → a ≡ b
-open-answers Opened Opened e = refl
-open-answers Opened (RefusedOpen r) e = absurd (no_zero r (sym e))
-open-answers (RefusedOpen r) Opened e = absurd (no_zero r e)
-open-answers (RefusedOpen r) (RefusedOpen s) e = ap RefusedOpen (numbers_apart r s e)
+open_answers : (a b : OpenAnswer) → open_number_told a ≡ open_number_told b → a ≡ b
+open_answers Opened Opened e = refl
+open_answers Opened (RefusedOpen r) e = absurd (no_zero r (sym e))
+open_answers (RefusedOpen r) Opened e = absurd (no_zero r e)
+open_answers (RefusedOpen r) (RefusedOpen s) e = ap RefusedOpen (numbers_apart r s e)
 
-perform-answers : (a b : PerformAnswer) → numberTold a ≡ numberTold b → storedTold a ≡ storedTold b → a ≡ b
-perform-answers (Done x) (Done y) e f = ap Done f
-perform-answers (Done x) (Refused r) e f = absurd (no_zero r (sym e))
-perform-answers (Refused r) (Done y) e f = absurd (no_zero r e)
-perform-answers (Refused r) (Refused s) e f = ap Refused (numbers_apart r s e)
+perform_answers_lem : (a b : PerformAnswer) → number_told a ≡ number_told b → stored_told a ≡ stored_told b → a ≡ b
+perform_answers_lem (Done x) (Done y) e f = ap Done f
+perform_answers_lem (Done x) (Refused r) e f = absurd (no_zero r (sym e))
+perform_answers_lem (Refused r) (Done y) e f = absurd (no_zero r e)
+perform_answers_lem (Refused r) (Refused s) e f = ap Refused (numbers_apart r s e)
 
-view-answers : (a b : ViewAnswer) → viewNumberTold a ≡ viewNumberTold b → figuresTold a ≡ figuresTold b → a ≡ b
-view-answers (Seen s c p t) (Seen s' c' p' t') e f =
+view_answers : (a b : ViewAnswer) → view_number_told a ≡ view_number_told b → figures_told a ≡ figures_told b → a ≡ b
+view_answers (Seen s c p t) (Seen s' c' p' t') e f =
     let stored : s ≡ s' = ap (λ (g : Figures). g.stored) f in
     let capacity : c ≡ c' = ap (λ (g : Figures). g.capacity) f in
     let percent : p ≡ p' = ap (λ (g : Figures). g.percent) f in
     let total : t ≡ t' = ap (λ (g : Figures). g.total) f in
     cc
-view-answers (Seen s c p t) (RefusedView r) e f = absurd (no_zero r (sym e))
-view-answers (RefusedView r) (Seen s c p t) e f = absurd (no_zero r e)
-view-answers (RefusedView r) (RefusedView s) e f = ap RefusedView (numbers_apart r s e)
+view_answers (Seen s c p t) (RefusedView r) e f = absurd (no_zero r (sym e))
+view_answers (RefusedView r) (Seen s c p t) e f = absurd (no_zero r e)
+view_answers (RefusedView r) (RefusedView s) e f = ap RefusedView (numbers_apart r s e)
 
 -- ---- what is told of an outcome fixes it
 
-pub open_told : (a b : OpenAnswer) (p x q y : List ℕ) → toldOpen a p x ≡ toldOpen b q y → (a ≡ b) × (x ≡ y)
-open_told a b p x q y e = (open-answers a b (ap (λ (o : Outcome). o.number) e), ap (λ (o : Outcome). o.answer) e)
+pub open_told : (a b : OpenAnswer) (p x q y : List ℕ) → told_open a p x ≡ told_open b q y → (a ≡ b) × (x ≡ y)
+open_told a b p x q y e = (open_answers a b (ap (λ (o : Outcome). o.number) e), ap (λ (o : Outcome). o.answer) e)
 
-pub perform-told : (a b : PerformAnswer) (p x q y : List ℕ) → told a p x ≡ told b q y → (a ≡ b) × ((p ≡ q) × (x ≡ y))
-perform-told a b p x q y e =
-    (perform-answers a b (ap (λ (o : Performed). o.number) e) (ap (λ (o : Performed). o.stored) e), (ap (λ (o : Performed). o.page) e, ap (λ (o : Performed). o.answer) e))
+pub perform_told : (a b : PerformAnswer) (p x q y : List ℕ) → told a p x ≡ told b q y → (a ≡ b) × ((p ≡ q) × (x ≡ y))
+perform_told a b p x q y e =
+    (perform_answers_lem a b (ap (λ (o : Performed). o.number) e) (ap (λ (o : Performed). o.stored) e), (ap (λ (o : Performed). o.page) e, ap (λ (o : Performed). o.answer) e))
 
-pub view-told : (a b : ViewAnswer) → toldView a ≡ toldView b → a ≡ b
-view-told a b e = view-answers a b (ap (λ (o : Viewed). o.number) e) (ap (λ (o : Viewed). o.figures) e)
+pub view_told : (a b : ViewAnswer) → told_view a ≡ told_view b → a ≡ b
+view_told a b e = view_answers a b (ap (λ (o : Viewed). o.number) e) (ap (λ (o : Viewed). o.figures) e)

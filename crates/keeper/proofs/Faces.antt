@@ -5,34 +5,34 @@ use Prim.Native.Nat.{ℕ}
 use mathlib.Core.List.{List, []}
 use Rattle.refusals.specs.declared.Refusal.{Refusal}
 use Rattle.refusals.specs.Numbers.{number_of}
-use Rattle.answers.specs.Answers.{Outcome, Performed, Viewed, Resumed, resumedNumber}
+use Rattle.answers.specs.Answers.{Outcome, Performed, Viewed, Resumed, resumed_number}
 use Rattle.opens.specs.declared.OpenAnswer.{OpenAnswer}
-use Rattle.opens.specs.Told.{openNumberTold, toldOpen}
+use Rattle.opens.specs.Told.{open_number_told, told_open}
 use Rattle.calls.specs.declared.PerformAnswer.{PerformAnswer}
-use Rattle.calls.specs.Told.{numberTold, told}
+use Rattle.calls.specs.Told.{number_told, told}
 use Rattle.views.specs.declared.ViewAnswer.{ViewAnswer}
 use Rattle.views.specs.declared.Which.{Which}
-use Rattle.views.specs.Told.{viewNumberTold, figuresTold, toldView, toldWhich}
-use Rattle.keeper.specs.Lent.{Lent, handedBack}
-use Rattle.keeper.specs.Numbers.{performOutcome}
+use Rattle.views.specs.Told.{view_number_told, figures_told, told_view, told_which}
+use Rattle.keeper.specs.Lent.{Lent, handed_back}
+use Rattle.keeper.specs.Numbers.{perform_outcome}
 
 -- open, perform and repeat: a number that is the answer's own
-pub opened-to-c : (a b : OpenAnswer) (x : ℕ) (page after : List ℕ) (o : Outcome) → toldOpen a page after ≡ o → a ≡ b → x ≡ openNumberTold b
+pub opened_to_c : (a b : OpenAnswer) (x : ℕ) (page after : List ℕ) (o : Outcome) → told_open a page after ≡ o → a ≡ b → x ≡ open_number_told b
     → ◌≡◌ {A = Outcome} (record { number = x; page = page; answer = after }) o
-opened-to-c a b x page after o is case number = rw (number, ← case) is
+opened_to_c a b x page after o is case number = rw (number, ← case) is
 
-pub performed-to-c : (a b : PerformAnswer) (x : ℕ) (page after : List ℕ) (p : Performed) → told a page after ≡ p → a ≡ b → x ≡ numberTold b
-    → ◌≡◌ {A = Outcome} (record { number = x; page = page; answer = after }) (performOutcome p)
-performed-to-c a b x page after p is case number = rw (number, ← case) (ap performOutcome is)
+pub performed_to_c : (a b : PerformAnswer) (x : ℕ) (page after : List ℕ) (p : Performed) → told a page after ≡ p → a ≡ b → x ≡ number_told b
+    → ◌≡◌ {A = Outcome} (record { number = x; page = page; answer = after }) (perform_outcome p)
+performed_to_c a b x page after p is case number = rw (number, ← case) (ap perform_outcome is)
 
 -- view: any number read off the answer
-pub viewed-to-c : (read : Viewed → ℕ) (a b : ViewAnswer) (x : ℕ) (v : Viewed) → toldView a ≡ v → a ≡ b → x ≡ read (toldView b) → x ≡ read v
-viewed-to-c read a b x v is case number = number ∙ ap (λ (c : ViewAnswer). read (toldView c)) (sym case) ∙ ap read is
+pub viewed_to_c : (read : Viewed → ℕ) (a b : ViewAnswer) (x : ℕ) (v : Viewed) → told_view a ≡ v → a ≡ b → x ≡ read (told_view b) → x ≡ read v
+viewed_to_c read a b x v is case number = number ∙ ap (λ (c : ViewAnswer). read (told_view c)) (sym case) ∙ ap read is
 
 -- resume: the number, and the buffer
-pub resumed-to-c : (a b : Which) (x : ℕ) (r : Resumed) → toldWhich a ≡ r → a ≡ b → x ≡ resumedNumber (toldWhich b) → x ≡ resumedNumber r
-resumed-to-c a b x r is case number = number ∙ ap (λ (c : Which). resumedNumber (toldWhich c)) (sym case) ∙ ap resumedNumber is
+pub resumed_to_c : (a b : Which) (x : ℕ) (r : Resumed) → told_which a ≡ r → a ≡ b → x ≡ resumed_number (told_which b) → x ≡ resumed_number r
+resumed_to_c a b x r is case number = number ∙ ap (λ (c : Which). resumed_number (told_which c)) (sym case) ∙ ap resumed_number is
 
-pub handed : (a b : Which) (x inRam onDisk : Lent) (r : Resumed) → toldWhich a ≡ r → a ≡ b → x ≡ handedBack (toldWhich b) inRam onDisk → x ≡ handedBack r inRam onDisk
-handed a b x inRam onDisk r is case which =
-    which ∙ ap (λ (c : Which). handedBack (toldWhich c) inRam onDisk) (sym case) ∙ ap (λ (s : Resumed). handedBack s inRam onDisk) is
+pub handed : (a b : Which) (x in_ram on_disk : Lent) (r : Resumed) → told_which a ≡ r → a ≡ b → x ≡ handed_back (told_which b) in_ram on_disk → x ≡ handed_back r in_ram on_disk
+handed a b x in_ram on_disk r is case which =
+    which ∙ ap (λ (c : Which). handed_back (told_which c) in_ram on_disk) (sym case) ∙ ap (λ (s : Resumed). handed_back s in_ram on_disk) is

@@ -12,7 +12,7 @@ abbrev pub lent : ℕ × ℕ → List ℕ → Lent
 lent at bytes = record { at = at; bytes = bytes }
 
 -- the RAM one, the disk one, or the empty part at the start of the RAM one
-abbrev pub handedBack : Resumed → Lent → Lent → Lent
-handedBack ram inRam onDisk = inRam
-handedBack disk inRam onDisk = onDisk
-handedBack neither inRam onDisk = lent inRam.at []
+abbrev pub handed_back : Resumed → Lent → Lent → Lent
+handed_back ram in_ram on_disk = in_ram
+handed_back disk in_ram on_disk = on_disk
+handed_back neither in_ram on_disk = lent in_ram.at []

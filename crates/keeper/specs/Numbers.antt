@@ -6,5 +6,5 @@ use Rattle.answers.specs.Answers.{Outcome, Performed}
 abbrev pub outcome : ℕ → List ℕ → List ℕ → Outcome
 outcome number page answer = record { number = number; page = page; answer = answer }
 
-abbrev pub performOutcome : Performed → Outcome
-performOutcome p = outcome p.number p.page p.answer
+abbrev pub perform_outcome : Performed → Outcome
+perform_outcome p = outcome p.number p.page p.answer

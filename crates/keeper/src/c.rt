@@ -1,9 +1,9 @@
 // The keeper's C functions: a buffer is a pointer and then a length, and each returns one number. What they answer is
 // what the calls of the same names answer, by document 01's numbers.
 ghost use Rattle.std.specs.Prelude.{◌≡◌};
-ghost use Rattle.answers.specs.Answers.{opened, performed, repeated, viewed, resumed, resumedNumber};
-ghost use Rattle.answers.specs.Edition.{thisEdition};
-ghost use Rattle.keeper.specs.Numbers.{outcome, performOutcome};
+ghost use Rattle.answers.specs.Answers.{opened, performed, repeated, viewed, resumed, resumed_number};
+ghost use Rattle.answers.specs.Edition.{this_edition};
+ghost use Rattle.keeper.specs.Numbers.{outcome, perform_outcome};
 
 use crate::{open, perform, repeat, view};
 use calls::PerformAnswer;
@@ -14,7 +14,7 @@ use views::{ViewAnswer, Which, choose};
 
 #[unsafe(no_mangle)]
 pub extern "C" fn keeper_open(page: &[u8], answer: &mut [u8]) -> u32
-    ensures { outcome result page.now answer.new ≡ opened thisEdition page.now answer.old }
+    ensures { outcome result page.now answer.new ≡ opened this_edition page.now answer.old }
 {
     match open(page, answer) {
         OpenAnswer::Opened => 0,
@@ -29,7 +29,7 @@ pub extern "C" fn keeper_perform(
     request: &[u8],
     answer: &mut [u8],
 ) -> u32
-    ensures { outcome result page.new answer.new ≡ performOutcome (performed thisEdition page.old «record».now request.now answer.old) }
+    ensures { outcome result page.new answer.new ≡ perform_outcome (performed this_edition page.old «record».now request.now answer.old) }
 {
     match perform(page, record, request, answer) {
         PerformAnswer::Done { stored: _ } => 0,
@@ -44,7 +44,7 @@ pub extern "C" fn keeper_repeat(
     request: &[u8],
     answer: &mut [u8],
 ) -> u32
-    ensures { outcome result page.now answer.new ≡ performOutcome (repeated thisEdition page.now «record».now request.now answer.old) }
+    ensures { outcome result page.now answer.new ≡ perform_outcome (repeated this_edition page.now «record».now request.now answer.old) }
 {
     match repeat(page, record, request, answer) {
         PerformAnswer::Done { stored: _ } => 0,
@@ -54,7 +54,7 @@ pub extern "C" fn keeper_repeat(
 
 #[unsafe(no_mangle)]
 pub extern "C" fn keeper_view(page: &[u8], record: &[u8], rack: u32) -> u32
-    ensures { result ≡ (viewed thisEdition page.now «record».now rack).number }
+    ensures { result ≡ (viewed this_edition page.now «record».now rack).number }
 {
     match view(page, record, rack) {
         ViewAnswer::Seen {
@@ -69,7 +69,7 @@ pub extern "C" fn keeper_view(page: &[u8], record: &[u8], rack: u32) -> u32
 
 #[unsafe(no_mangle)]
 pub extern "C" fn keeper_view_stored(page: &[u8], record: &[u8], rack: u32) -> u32
-    ensures { result ≡ (viewed thisEdition page.now «record».now rack).figures.stored }
+    ensures { result ≡ (viewed this_edition page.now «record».now rack).figures.stored }
 {
     match view(page, record, rack) {
         ViewAnswer::Seen {
@@ -84,7 +84,7 @@ pub extern "C" fn keeper_view_stored(page: &[u8], record: &[u8], rack: u32) -> u
 
 #[unsafe(no_mangle)]
 pub extern "C" fn keeper_view_capacity(page: &[u8], record: &[u8], rack: u32) -> u32
-    ensures { result ≡ (viewed thisEdition page.now «record».now rack).figures.capacity }
+    ensures { result ≡ (viewed this_edition page.now «record».now rack).figures.capacity }
 {
     match view(page, record, rack) {
         ViewAnswer::Seen {
@@ -99,7 +99,7 @@ pub extern "C" fn keeper_view_capacity(page: &[u8], record: &[u8], rack: u32) ->
 
 #[unsafe(no_mangle)]
 pub extern "C" fn keeper_view_percent(page: &[u8], record: &[u8], rack: u32) -> u32
-    ensures { result ≡ (viewed thisEdition page.now «record».now rack).figures.percent }
+    ensures { result ≡ (viewed this_edition page.now «record».now rack).figures.percent }
 {
     match view(page, record, rack) {
         ViewAnswer::Seen {
@@ -114,7 +114,7 @@ pub extern "C" fn keeper_view_percent(page: &[u8], record: &[u8], rack: u32) -> 
 
 #[unsafe(no_mangle)]
 pub extern "C" fn keeper_view_total(page: &[u8], record: &[u8], rack: u32) -> u32
-    ensures { result ≡ (viewed thisEdition page.now «record».now rack).figures.total }
+    ensures { result ≡ (viewed this_edition page.now «record».now rack).figures.total }
 {
     match view(page, record, rack) {
         ViewAnswer::Seen {
@@ -129,7 +129,7 @@ pub extern "C" fn keeper_view_total(page: &[u8], record: &[u8], rack: u32) -> u3
 
 #[unsafe(no_mangle)]
 pub extern "C" fn keeper_resume(page: &[u8], ram: &[u8], disk: &[u8]) -> u32
-    ensures { result ≡ resumedNumber (resumed thisEdition page.now ram.now disk.now) }
+    ensures { result ≡ resumed_number (resumed this_edition page.now ram.now disk.now) }
 {
     match choose(page, ram, disk, Form::Version1) {
         Which::Neither => 0,

@@ -4,11 +4,11 @@ mod c;
 
 ghost use Rattle.std.specs.Prelude.{◌≡◌};
 ghost use Rattle.answers.specs.Answers.{opened, performed, repeated, viewed, resumed};
-ghost use Rattle.answers.specs.Edition.{thisEdition};
-ghost use Rattle.opens.specs.Told.{toldOpen};
+ghost use Rattle.answers.specs.Edition.{this_edition};
+ghost use Rattle.opens.specs.Told.{told_open};
 ghost use Rattle.calls.specs.Told.{told};
-ghost use Rattle.views.specs.Told.{toldView};
-ghost use Rattle.keeper.specs.Lent.{lent, handedBack};
+ghost use Rattle.views.specs.Told.{told_view};
+ghost use Rattle.keeper.specs.Lent.{lent, handed_back};
 
 use calls::PerformAnswer;
 use opens::OpenAnswer;
@@ -17,28 +17,28 @@ use views::{ViewAnswer, Which, choose};
 
 // Open: the first record, with summary zero and its authenticator; the page stays as it is.
 pub fn open(page: &[u8], answer: &mut [u8]) -> OpenAnswer
-    ensures { toldOpen result page.now answer.new ≡ opened thisEdition page.now answer.old }
+    ensures { told_open result page.now answer.new ≡ opened this_edition page.now answer.old }
 {
     opens::open(page, answer)
 }
 
 // Perform: the request is carried out on the record, the next record is written, and the page moves on.
 pub fn perform(page: &mut [u8], record: &[u8], request: &[u8], answer: &mut [u8]) -> PerformAnswer
-    ensures { told result page.new answer.new ≡ performed thisEdition page.old «record».now request.now answer.old }
+    ensures { told result page.new answer.new ≡ performed this_edition page.old «record».now request.now answer.old }
 {
     calls::perform(page, record, request, answer, Form::Version1)
 }
 
 // Repeat: the record that perform wrote for the page's last request is written again; the page stays as it is.
 pub fn repeat(page: &[u8], record: &[u8], request: &[u8], answer: &mut [u8]) -> PerformAnswer
-    ensures { told result page.now answer.new ≡ repeated thisEdition page.now «record».now request.now answer.old }
+    ensures { told result page.now answer.new ≡ repeated this_edition page.now «record».now request.now answer.old }
 {
     calls::repeat(page, record, request, answer, Form::Version1)
 }
 
 // View: a rack's stored, capacity and percent, and the total over all racks; nothing is written.
 pub fn view(page: &[u8], record: &[u8], rack: u32) -> ViewAnswer
-    ensures { toldView result ≡ viewed thisEdition page.now «record».now rack }
+    ensures { told_view result ≡ viewed this_edition page.now «record».now rack }
 {
     views::view(page, record, rack as usize, Form::Version1)
 }
@@ -46,7 +46,7 @@ pub fn view(page: &[u8], record: &[u8], rack: u32) -> ViewAnswer
 // Resume: the current one of two records, itself, as a part of the caller's own buffer: the one in RAM if both are, and
 // the empty part at the start of RAM's if neither is.
 pub fn resume<'a>(page: &[u8], ram: &'a [u8], disk: &'a [u8]) -> &'a [u8]
-    ensures { lent result.ref_ptr result.now ≡ handedBack (resumed thisEdition page.now ram.now disk.now) (lent ram.entry.ref_ptr ram.now) (lent disk.entry.ref_ptr disk.now) }
+    ensures { lent result.ref_ptr result.now ≡ handed_back (resumed this_edition page.now ram.now disk.now) (lent ram.entry.ref_ptr ram.now) (lent disk.entry.ref_ptr disk.now) }
 {
     match choose(page, ram, disk, Form::Version1) {
         Which::Ram => ram,

@@ -5,7 +5,7 @@ use Rattle.records.specs.Form.{Form}
 use Rattle.answers.specs.Accepting.{Passing}
 use Rattle.answers.specs.Edition.{design}
 use Rattle.answers.proofs.Tests.{offered-passes}
-use Rattle.answers.proofs.Accepted.{perform-passed, repeat-passed}
+use Rattle.answers.proofs.Accepted.{perform_passed, repeat_passed}
 use Rattle.memoir.specs.Actions.{Possible}
 use Rattle.memoir.specs.Theorems.{AcceptedArePossible}
 
@@ -17,13 +17,13 @@ possible f page l request answer summary state p =
       carries = p.carries;
     }
 
-pub accepted-are-possible : (f : Form) → AcceptedArePossible f
-accepted-are-possible f =
+pub accepted_are_possible : (f : Form) → AcceptedArePossible f
+accepted_are_possible f =
     record {
       performs = λ page l request answer e.
-          let (state, p) = perform-passed (design f) page l request answer e in
+          let (state, p) = perform_passed (design f) page l request answer e in
           possible f page l request answer _ state p;
       repeats = λ page l request answer e.
-          let (state, p) = repeat-passed (design f) page l request answer e in
+          let (state, p) = repeat_passed (design f) page l request answer e in
           possible f page l request answer _ state p;
     }

@@ -4,21 +4,21 @@ use Prim.Native.Nat.{ℕ}
 use mathlib.Core.List.{List, []}
 use Rattle.records.specs.Form.{Form}
 use Rattle.answers.specs.Design.{Served}
-use Rattle.answers.specs.Edition.{servedBytes}
+use Rattle.answers.specs.Edition.{served_bytes}
 use Rattle.memoir.specs.Instance.{result_of}
 use Rattle.memoir.specs.Theorems.{PrivateStateIsEmpty}
 
 -- what the service gives anew, carried out or barred
-new-is-empty : (f : Form) (publicState input : List ℕ) (s : Served) → (result_of f publicState input s).newPrivateState ≡ []
-new-is-empty f publicState input (Served.carried state) = refl
-new-is-empty f publicState input (Served.barred r) = refl
+new_is_empty : (f : Form) (public_state input : List ℕ) (s : Served) → (result_of f public_state input s).new_private_state ≡ []
+new_is_empty f public_state input (Served.carried state) = refl
+new_is_empty f public_state input (Served.barred r) = refl
 
-pub private-state-is-empty : (f : Form) → PrivateStateIsEmpty f
-private-state-is-empty f =
+pub private_state_is_empty : (f : Form) → PrivateStateIsEmpty f
+private_state_is_empty f =
     record {
-      performDecrypts = λ vars. refl;
-      performGives = λ vars input. new-is-empty f _ input (servedBytes f.racks vars.LL1RAM.publicState input);
-      repeatDecrypts = λ vars. refl;
-      repeatGives = λ vars input. new-is-empty f _ input (servedBytes f.racks vars.LL1RAM.publicState input);
+      perform_decrypts = λ vars. refl;
+      perform_gives = λ vars input. new_is_empty f _ input (served_bytes f.racks vars.LL1RAM.public_state input);
+      repeat_decrypts = λ vars. refl;
+      repeat_gives = λ vars input. new_is_empty f _ input (served_bytes f.racks vars.LL1RAM.public_state input);
       inverse = λ key. refl;
     }

@@ -6,22 +6,22 @@ use Rattle.std.specs.Prelude.{◌≡◌, ℕ, List, [], ◌∷◌}
 use Rattle.numbers.specs.Parts.{part}
 use Rattle.records.specs.Form.{Form}
 use Rattle.records.specs.declared.Tested.TheVariants.{Passed}
-use Rattle.records.specs.Page.{pageSummary, pageKey}
-use Rattle.records.specs.Record.{recordSize, stateBytes, summary, authenticator}
+use Rattle.records.specs.Page.{page_summary, page_key}
+use Rattle.records.specs.Record.{record_size, state_bytes, summary, authenticator}
 use Rattle.answers.specs.Design.{Served}
 use Rattle.answers.specs.Judging.{offered}
 use Rattle.answers.specs.Answers.{Performed}
-use Rattle.answers.specs.Edition.{design, servedBytes}
+use Rattle.answers.specs.Edition.{design, served_bytes}
 use Rattle.memoir.specs.Storage.{LL1UntrustedStorageType, LL1TrustedStorageType, LL1Vars}
 use Rattle.memoir.specs.PerformOperation as Perform
 use Rattle.memoir.specs.RepeatOperation as Repeat
 
 -- a record, and a page, as the report's storage
-abbrev pub storageIn : Form → List ℕ → LL1UntrustedStorageType
-storageIn f l = record { publicState = stateBytes f l; privateStateEnc = []; historySummary = summary f l; authenticator = authenticator f l }
+abbrev pub storage_in : Form → List ℕ → LL1UntrustedStorageType
+storage_in f l = record { public_state = state_bytes f l; private_state_enc = []; history_summary = summary f l; authenticator = authenticator f l }
 
-abbrev pub trustedIn : List ℕ → LL1TrustedStorageType
-trustedIn page = record { historySummary = pageSummary page; symmetricKey = pageKey page }
+abbrev pub trusted_in : List ℕ → LL1TrustedStorageType
+trusted_in page = record { history_summary = page_summary page; symmetric_key = page_key page }
 
 -- the variables when a record is offered with a page; the rest is v's
 abbrev pub offering : Form → List ℕ → List ℕ → LL1Vars → LL1Vars
@@ -31,13 +31,13 @@ offering f page l v =
       LL1ObservedOutputs = v.LL1ObservedOutputs;
       LL1ObservedAuthenticators = v.LL1ObservedAuthenticators;
       LL1Disk = v.LL1Disk;
-      LL1RAM = storageIn f l;
-      LL1NVRAM = trustedIn page;
+      LL1RAM = storage_in f l;
+      LL1NVRAM = trusted_in page;
     }
 
 -- the record at the front of an answer buffer
 abbrev pub written : Form → List ℕ → List ℕ
-written f answer = part 0 (recordSize f) answer
+written f answer = part 0 (record_size f) answer
 
 -- the variables after an accepted call that left this page and this answer and returned this figure
 abbrev pub accepted : Form → Performed → LL1Vars → LL1Vars
@@ -47,12 +47,12 @@ accepted f p v =
       LL1ObservedOutputs = p.stored ∷ v.LL1ObservedOutputs;
       LL1ObservedAuthenticators = authenticator f (written f p.answer) ∷ v.LL1ObservedAuthenticators;
       LL1Disk = v.LL1Disk;
-      LL1RAM = storageIn f (written f p.answer);
-      LL1NVRAM = trustedIn p.page;
+      LL1RAM = storage_in f (written f p.answer);
+      LL1NVRAM = trusted_in p.page;
     }
 
 -- a call that let tests 1 to 6 pass, on a request that the charge rules can carry out
 pub record Possible (f : Form) (page l request answer : List ℕ) : Type 0 where
   pub passed : offered (design f) page l request answer ≡ Passed
   pub state : List ℕ
-  pub carries : servedBytes f.racks (stateBytes f l) request ≡ Served.carried state
+  pub carries : served_bytes f.racks (state_bytes f l) request ≡ Served.carried state

@@ -12,8 +12,8 @@ pub data HashDomain : Type 0 where
 
 -- what Service gives: the new states, and the output
 pub record ServiceResult : Type 0 where
-  pub newPublicState : List ℕ
-  pub newPrivateState : List ℕ
+  pub new_public_state : List ℕ
+  pub new_private_state : List ℕ
   pub output : ℕ
 
 -- the CONSTANTs that the two actions use

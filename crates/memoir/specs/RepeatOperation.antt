@@ -8,37 +8,37 @@ use Rattle.memoir.specs.Storage.{LL1UntrustedStorageType, LL1TrustedStorageType,
 
 -- LET
 
-abbrev pub stateHash : Constants → LL1Vars → List ℕ
-stateHash C v = C.Hash (PublicStateType v.LL1RAM.publicState) (PrivateStateEncType v.LL1RAM.privateStateEnc)
+abbrev pub state_hash : Constants → LL1Vars → List ℕ
+state_hash C v = C.Hash (PublicStateType v.LL1RAM.public_state) (PrivateStateEncType v.LL1RAM.private_state_enc)
 
-abbrev pub historyStateBinding : Constants → LL1Vars → List ℕ
-historyStateBinding C v = C.Hash (HashType v.LL1RAM.historySummary) (HashType (stateHash C v))
+abbrev pub history_state_binding : Constants → LL1Vars → List ℕ
+history_state_binding C v = C.Hash (HashType v.LL1RAM.history_summary) (HashType (state_hash C v))
 
-abbrev pub privateState : Constants → LL1Vars → List ℕ
-privateState C v = C.SymmetricDecrypt v.LL1NVRAM.symmetricKey v.LL1RAM.privateStateEnc
+abbrev pub private_state : Constants → LL1Vars → List ℕ
+private_state C v = C.SymmetricDecrypt v.LL1NVRAM.symmetric_key v.LL1RAM.private_state_enc
 
-abbrev pub sResult : Constants → LL1Vars → List ℕ → ServiceResult
-sResult C v input = C.Service v.LL1RAM.publicState (privateState C v) input
+abbrev pub s_result : Constants → LL1Vars → List ℕ → ServiceResult
+s_result C v input = C.Service v.LL1RAM.public_state (private_state C v) input
 
-abbrev pub newPrivateStateEnc : Constants → LL1Vars → List ℕ → List ℕ
-newPrivateStateEnc C v input = C.SymmetricEncrypt v.LL1NVRAM.symmetricKey (sResult C v input).newPrivateState
+abbrev pub new_private_state_enc : Constants → LL1Vars → List ℕ → List ℕ
+new_private_state_enc C v input = C.SymmetricEncrypt v.LL1NVRAM.symmetric_key (s_result C v input).new_private_state
 
-abbrev pub newStateHash : Constants → LL1Vars → List ℕ → List ℕ
-newStateHash C v input = C.Hash (PublicStateType (sResult C v input).newPublicState) (PrivateStateEncType (newPrivateStateEnc C v input))
+abbrev pub new_state_hash : Constants → LL1Vars → List ℕ → List ℕ
+new_state_hash C v input = C.Hash (PublicStateType (s_result C v input).new_public_state) (PrivateStateEncType (new_private_state_enc C v input))
 
-abbrev pub newHistoryStateBinding : Constants → LL1Vars → List ℕ → List ℕ
-newHistoryStateBinding C v input = C.Hash (HashType v.LL1NVRAM.historySummary) (HashType (newStateHash C v input))
+abbrev pub new_history_state_binding : Constants → LL1Vars → List ℕ → List ℕ
+new_history_state_binding C v input = C.Hash (HashType v.LL1NVRAM.history_summary) (HashType (new_state_hash C v input))
 
-abbrev pub newAuthenticator : Constants → LL1Vars → List ℕ → List ℕ
-newAuthenticator C v input = C.GenerateMAC v.LL1NVRAM.symmetricKey (newHistoryStateBinding C v input)
+abbrev pub new_authenticator : Constants → LL1Vars → List ℕ → List ℕ
+new_authenticator C v input = C.GenerateMAC v.LL1NVRAM.symmetric_key (new_history_state_binding C v input)
 
 -- IN: 'There are two enablement conditions'
 pub record Enabled (C : Constants) (v : LL1Vars) (input : List ℕ) : Type 0 where
   -- the first as in perform
-  pub valid : C.ValidateMAC v.LL1NVRAM.symmetricKey (historyStateBinding C v) v.LL1RAM.authenticator ≡ true
+  pub valid : C.ValidateMAC v.LL1NVRAM.symmetric_key (history_state_binding C v) v.LL1RAM.authenticator ≡ true
   -- 'Second, the history summary supplied by the user, hashed with the input supplied by the user, must match the history summary in
   -- the NVRAM.'
-  pub current : v.LL1NVRAM.historySummary ≡ C.Hash (HashType v.LL1RAM.historySummary) (InputType input)
+  pub current : v.LL1NVRAM.history_summary ≡ C.Hash (HashType v.LL1RAM.history_summary) (InputType input)
 
 -- the action, with its input: from the variables v to the primed ones
 pub record LL1RepeatOperation (C : Constants) (v v' : LL1Vars) (input : List ℕ) : Type 0 where
@@ -46,14 +46,14 @@ pub record LL1RepeatOperation (C : Constants) (v v' : LL1Vars) (input : List ℕ
   pub enabled : Enabled C v input
   pub ram : ◌≡◌ {A = LL1UntrustedStorageType} v'.LL1RAM
       (record {
-        publicState = (sResult C v input).newPublicState;
-        privateStateEnc = newPrivateStateEnc C v input;
-        historySummary = v.LL1NVRAM.historySummary;
-        authenticator = newAuthenticator C v input;
+        public_state = (s_result C v input).new_public_state;
+        private_state_enc = new_private_state_enc C v input;
+        history_summary = v.LL1NVRAM.history_summary;
+        authenticator = new_authenticator C v input;
       })
-  pub outputs : v'.LL1ObservedOutputs ≡ (sResult C v input).output ∷ v.LL1ObservedOutputs
+  pub outputs : v'.LL1ObservedOutputs ≡ (s_result C v input).output ∷ v.LL1ObservedOutputs
   -- 'The NVRAM is unchanged, because this action is not supposed to change the state of the service.'
   pub nvram : v'.LL1NVRAM ≡ v.LL1NVRAM
   pub disk : v'.LL1Disk ≡ v.LL1Disk
   pub inputs : v'.LL1AvailableInputs ≡ v.LL1AvailableInputs
-  pub authenticators : v'.LL1ObservedAuthenticators ≡ newAuthenticator C v input ∷ v.LL1ObservedAuthenticators
+  pub authenticators : v'.LL1ObservedAuthenticators ≡ new_authenticator C v input ∷ v.LL1ObservedAuthenticators

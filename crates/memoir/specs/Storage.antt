@@ -4,15 +4,15 @@ use Rattle.std.specs.Prelude.{ℕ, List}
 
 -- 'The disk and RAM are untrusted.'
 pub record LL1UntrustedStorageType : Type 0 where
-  pub publicState : List ℕ
-  pub privateStateEnc : List ℕ
-  pub historySummary : List ℕ
+  pub public_state : List ℕ
+  pub private_state_enc : List ℕ
+  pub history_summary : List ℕ
   pub authenticator : List ℕ
 
 -- 'The NVRAM is trusted.'
 pub record LL1TrustedStorageType : Type 0 where
-  pub historySummary : List ℕ
-  pub symmetricKey : List ℕ
+  pub history_summary : List ℕ
+  pub symmetric_key : List ℕ
 
 -- LL1Vars
 pub record LL1Vars : Type 0 where

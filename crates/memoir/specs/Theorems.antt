@@ -55,8 +55,8 @@ pub record OtherwiseStays (f : Form) : Type 0 where
 -- input, carried out or barred; and of it the report's SymmetricCryptoCorrect holds, 'decryption is the inverse of encryption with the
 -- same key'
 pub record PrivateStateIsEmpty (f : Form) : Type 0 where
-  pub performDecrypts : (vars : LL1Vars) → Perform.privateState (constants f) vars ≡ []
-  pub performGives : (vars : LL1Vars) (input : List ℕ) → (Perform.sResult (constants f) vars input).newPrivateState ≡ []
-  pub repeatDecrypts : (vars : LL1Vars) → Repeat.privateState (constants f) vars ≡ []
-  pub repeatGives : (vars : LL1Vars) (input : List ℕ) → (Repeat.sResult (constants f) vars input).newPrivateState ≡ []
+  pub perform_decrypts : (vars : LL1Vars) → Perform.private_state (constants f) vars ≡ []
+  pub perform_gives : (vars : LL1Vars) (input : List ℕ) → (Perform.s_result (constants f) vars input).new_private_state ≡ []
+  pub repeat_decrypts : (vars : LL1Vars) → Repeat.private_state (constants f) vars ≡ []
+  pub repeat_gives : (vars : LL1Vars) (input : List ℕ) → (Repeat.s_result (constants f) vars input).new_private_state ≡ []
   pub inverse : (key : List ℕ) → (constants f).SymmetricDecrypt key ((constants f).SymmetricEncrypt key []) ≡ []

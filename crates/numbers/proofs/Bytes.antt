@@ -52,7 +52,7 @@ bytes-over at v d h k =
     (bytes_drop (at + length v) d k)
 
 -- a number in w bytes
-pub bytes-bytesOf : (w x : ℕ) → Bytes (bytes_of w x)
+pub bytes-bytes_of : (w x : ℕ) → Bytes (bytes_of w x)
 unfolding bytes_of
-bytes-bytesOf zero x = bytes-nil
-bytes-bytesOf (suc w) x = bytes-cons _ (bytes_of w x) (mod-lt _ (zero-lt-suc 255)) (bytes-bytesOf w x)
+bytes-bytes_of zero x = bytes-nil
+bytes-bytes_of (suc w) x = bytes-cons _ (bytes_of w x) (mod-lt _ (zero-lt-suc 255)) (bytes-bytes_of w x)

@@ -17,23 +17,23 @@ same_refl [] = refl
 same_refl (x ∷ a) = rw (eq-eqb x x refl) (same_refl a)
 
 -- lists that are the same are equal
-same-equal : (a b : List ℕ) → same a b ≡ true → a ≡ b
+same_equal : (a b : List ℕ) → same a b ≡ true → a ≡ b
 unfolding same
-same-equal [] [] t = refl
-same-equal [] (y ∷ b) t = absurd (false≢true t)
-same-equal (x ∷ a) [] t = absurd (false≢true t)
-same-equal (x ∷ a) (y ∷ b) t =
+same_equal [] [] t = refl
+same_equal [] (y ∷ b) t = absurd (false≢true t)
+same_equal (x ∷ a) [] t = absurd (false≢true t)
+same_equal (x ∷ a) (y ∷ b) t =
     let both = (and-eq-true_iff (eqb x y) (same a b)).0 t in
-    rw (eqb-true x y both.0, same-equal a b both.1)
+    rw (eqb-true x y both.0, same_equal a b both.1)
 
 -- `same` is equality as a test
-pub same-iff : (a b : List ℕ) → same a b ≡ true ↔ a ≡ b
-same-iff a b = (same-equal a b, λ e. rw e (same_refl b))
+pub same_iff : (a b : List ℕ) → same a b ≡ true ↔ a ≡ b
+same_iff a b = (same_equal a b, λ e. rw e (same_refl b))
 
 -- lists of different lengths are not the same
-pub same-lengths : (a b : List ℕ) → (length a ≡ length b → ⊥) → same a b ≡ false
+pub same_lengths : (a b : List ℕ) → (length a ≡ length b → ⊥) → same a b ≡ false
 unfolding same
-same-lengths [] [] h = absurd (h refl)
-same-lengths [] (y ∷ b) h = refl
-same-lengths (x ∷ a) [] h = refl
-same-lengths (x ∷ a) (y ∷ b) h = rw (same-lengths a b (λ e. h (ap suc e))) (and-false (eqb x y))
+same_lengths [] [] h = absurd (h refl)
+same_lengths [] (y ∷ b) h = refl
+same_lengths (x ∷ a) [] h = refl
+same_lengths (x ∷ a) (y ∷ b) h = rw (same_lengths a b (λ e. h (ap suc e))) (and-false (eqb x y))

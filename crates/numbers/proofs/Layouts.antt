@@ -16,16 +16,16 @@ length-join [] = refl
 length-join (p ∷ ps) = rw (length-append, length-join ps)
 
 -- the parts of what is long enough have the widths that they were cut by
-pub widths-cutAt : (at : ℕ) (ws l : List ℕ) → at + size ws ≤ length l → map length (cut_at at ws l) ≡ ws
-widths-cutAt at [] l fits = refl
-widths-cutAt at (w ∷ ws) l fits =
-    ap₂ {C = List ℕ} (λ a b. a ∷ b) (length_part at w l (omega arith)) (widths-cutAt (at + w) ws l (omega arith))
+pub widths_cut_at : (at : ℕ) (ws l : List ℕ) → at + size ws ≤ length l → map length (cut_at at ws l) ≡ ws
+widths_cut_at at [] l fits = refl
+widths_cut_at at (w ∷ ws) l fits =
+    ap₂ {C = List ℕ} (λ a b. a ∷ b) (length_part at w l (omega arith)) (widths_cut_at (at + w) ws l (omega arith))
 
 -- cut, and joined again
-pub join-cutAt : (at : ℕ) (ws l : List ℕ) → join (cut_at at ws l) ≡ part at (size ws) l
+pub join-cut_at : (at : ℕ) (ws l : List ℕ) → join (cut_at at ws l) ≡ part at (size ws) l
 unfolding part
-join-cutAt at [] l = refl
-join-cutAt at (w ∷ ws) l = rw (join-cutAt (at + w) ws l, part-add)
+join-cut_at at [] l = refl
+join-cut_at at (w ∷ ws) l = rw (join-cut_at (at + w) ws l, part-add)
 
 -- l holds p and q end to end from `at` on
 module _ (at w n : ℕ) (p q l : List ℕ) (wide : length p ≡ w) (joined : part at (w + n) l ≡ p ++ q) where
@@ -40,13 +40,13 @@ module _ (at w n : ℕ) (p q l : List ℕ) (wide : length p ≡ w) (joined : par
   behind = rw (← drop-drop, ← drop-take) (ap (drop w) joined ∙ drop_at p q w wide)
 
 -- joined, and cut again by the widths of the parts themselves
-cut-joined : (at : ℕ) (l : List ℕ) (ps : List (List ℕ)) → part at (size (map length ps)) l ≡ join ps → cut_at at (map length ps) l ≡ ps
-cut-joined at l [] joined = refl
-cut-joined at l (p ∷ ps) joined =
+cut_joined : (at : ℕ) (l : List ℕ) (ps : List (List ℕ)) → part at (size (map length ps)) l ≡ join ps → cut_at at (map length ps) l ≡ ps
+cut_joined at l [] joined = refl
+cut_joined at l (p ∷ ps) joined =
     let n : ℕ = size (map length ps) in
-    let rest = cut-joined (at + length p) l ps (behind at (length p) n p (join ps) l refl joined) in
+    let rest = cut_joined (at + length p) l ps (behind at (length p) n p (join ps) l refl joined) in
     rw (front at (length p) n p (join ps) l refl joined, rest)
 
 -- joined, and cut again: where l holds the parts ps end to end from `at` on, cutting l there by their widths gives ps
-pub cutAt-join : (at : ℕ) (ws l : List ℕ) (ps : List (List ℕ)) → map length ps ≡ ws → part at (size ws) l ≡ join ps → cut_at at ws l ≡ ps
-cutAt-join at ws l ps widths = rw (← widths) (cut-joined at l ps)
+pub cut_at-join : (at : ℕ) (ws l : List ℕ) (ps : List (List ℕ)) → map length ps ≡ ws → part at (size ws) l ≡ join ps → cut_at at ws l ≡ ps
+cut_at-join at ws l ps widths = rw (← widths) (cut_joined at l ps)

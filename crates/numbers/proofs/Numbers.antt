@@ -7,16 +7,16 @@ use native.Mathlib.Omega.{arith}
 use mathlib.Core.List.{List, [], ◌∷◌}
 use lib.ListN.{length}
 use lib.Arith.{mod-mul, digits_lt, digits_div, digits_mod}
-use Rattle.numbers.specs.Numbers.{beFrom, be, bytes_of, Bytes}
+use Rattle.numbers.specs.Numbers.{be_from, be, bytes_of, Bytes}
 use Rattle.numbers.specs.Parts.{part}
 use Rattle.numbers.proofs.Bytes.{bytes-part}
 use Rattle.numbers.proofs.Parts.{length_part}
 
 -- a number in w bytes has w of them
-pub length-bytesOf : (w x : ℕ) → length (bytes_of w x) ≡ w
+pub length-bytes_of : (w x : ℕ) → length (bytes_of w x) ≡ w
 unfolding bytes_of
-length-bytesOf zero x = refl
-length-bytesOf (suc w) x = ap suc (length-bytesOf w x)
+length-bytes_of zero x = refl
+length-bytes_of (suc w) x = ap suc (length-bytes_of w x)
 
 -- a power of 256 is not 0
 pow_pos : (w : ℕ) → 0 < 256 ^ w
@@ -27,17 +27,17 @@ digit : (n x p r : ℕ) → (n * 256 + x) * p + r ≡ n * (256 * p) + (x * p + r
 digit n x p r = rw (add-mul, mul_assoc, add_assoc)
 
 -- bytes that follow others that stand for n
-pub beFrom-be : (n : ℕ) (l : List ℕ) → beFrom n l ≡ n * 256 ^ length l + be l
+pub be_from-be : (n : ℕ) (l : List ℕ) → be_from n l ≡ n * 256 ^ length l + be l
 unfolding be
-beFrom-be n [] = omega arith
-beFrom-be n (x ∷ l) =
-    rw (pow-succ', beFrom-be (n * 256 + x) l, beFrom-be (0 + x) l, zero-add)
+be_from-be n [] = omega arith
+be_from-be n (x ∷ l) =
+    rw (pow-succ', be_from-be (n * 256 + x) l, be_from-be (0 + x) l, zero-add)
     (digit n x (256 ^ length l) (be l))
 
 -- the first byte counts 256 to the length of the rest
 pub be-cons : (x : ℕ) (l : List ℕ) → be (x ∷ l) ≡ x * 256 ^ length l + be l
 unfolding be
-be-cons x l = rw zero-add (beFrom-be x l)
+be-cons x l = rw zero-add (be_from-be x l)
 
 -- w bytes stand for a number below 256 ^ w
 pub be-lt : (l : List ℕ) → Bytes l → be l < 256 ^ length l
@@ -50,30 +50,30 @@ pub be-part-lt : (at w : ℕ) (l : List ℕ) → Bytes l → at + w ≤ length l
 be-part-lt at w l bytes fits = rw (length_part at w l fits) at (be-lt (part at w l) (bytes-part at w l bytes))
 
 -- what w bytes keep of a number, behind others that stand for n
-beFrom-bytesOf : (n w x : ℕ) → beFrom n (bytes_of w x) ≡ n * 256 ^ w + x % 256 ^ w
-unfolding beFrom bytes_of
-beFrom-bytesOf n zero x = omega arith
-beFrom-bytesOf n (suc w) x =
-    rw (beFrom-bytesOf (n * 256 + x / 256 ^ w % 256) w x, pow-succ', mod-mul x (zero-lt-suc 255) (pow_pos w))
+be_from-bytes_of : (n w x : ℕ) → be_from n (bytes_of w x) ≡ n * 256 ^ w + x % 256 ^ w
+unfolding be_from bytes_of
+be_from-bytes_of n zero x = omega arith
+be_from-bytes_of n (suc w) x =
+    rw (be_from-bytes_of (n * 256 + x / 256 ^ w % 256) w x, pow-succ', mod-mul x (zero-lt-suc 255) (pow_pos w))
     (digit n (x / 256 ^ w % 256) (256 ^ w) (x % 256 ^ w))
 
 -- a number that w bytes hold is read back as it was written
-pub be-bytesOf : (w x : ℕ) → x < 256 ^ w → be (bytes_of w x) ≡ x
+pub be-bytes_of : (w x : ℕ) → x < 256 ^ w → be (bytes_of w x) ≡ x
 unfolding be
-be-bytesOf w x h = rw (beFrom-bytesOf 0 w x, zero-mul, zero-add) (mod-eq_of_lt h)
+be-bytes_of w x h = rw (be_from-bytes_of 0 w x, zero-mul, zero-add) (mod-eq_of_lt h)
 
 -- the byte x is found again between the number in front of it and the bytes behind it
-found : (n x : ℕ) (l : List ℕ) → x < 256 → Bytes l → beFrom (n * 256 + x) l / 256 ^ length l % 256 ≡ x
-found n x l h k = rw (beFrom-be (n * 256 + x) l, digits_div (n * 256 + x) (be-lt l k)) (digits_mod n h)
+found : (n x : ℕ) (l : List ℕ) → x < 256 → Bytes l → be_from (n * 256 + x) l / 256 ^ length l % 256 ≡ x
+found n x l h k = rw (be_from-be (n * 256 + x) l, digits_div (n * 256 + x) (be-lt l k)) (digits_mod n h)
 
 -- the bytes are written back, whatever stands in front of them
-bytesOf-beFrom : (n : ℕ) (l : List ℕ) → Bytes l → bytes_of (length l) (beFrom n l) ≡ l
-unfolding beFrom bytes_of
-bytesOf-beFrom n [] h = refl
-bytesOf-beFrom n (x ∷ l) h =
-    rw (found n x l (h 0) (λ i. h (suc i)), bytesOf-beFrom (n * 256 + x) l (λ i. h (suc i)))
+bytes_of-be_from : (n : ℕ) (l : List ℕ) → Bytes l → bytes_of (length l) (be_from n l) ≡ l
+unfolding be_from bytes_of
+bytes_of-be_from n [] h = refl
+bytes_of-be_from n (x ∷ l) h =
+    rw (found n x l (h 0) (λ i. h (suc i)), bytes_of-be_from (n * 256 + x) l (λ i. h (suc i)))
 
 -- w bytes are written back as they were read
-pub bytesOf-be : (w : ℕ) (l : List ℕ) → length l ≡ w → Bytes l → bytes_of w (be l) ≡ l
+pub bytes_of-be : (w : ℕ) (l : List ℕ) → length l ≡ w → Bytes l → bytes_of w (be l) ≡ l
 unfolding be
-bytesOf-be w l e h = rw (← e) (bytesOf-beFrom 0 l h)
+bytes_of-be w l e h = rw (← e) (bytes_of-be_from 0 l h)

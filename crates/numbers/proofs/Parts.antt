@@ -50,15 +50,15 @@ module _ (at w : ℕ) (v d : List ℕ) (wide : length v ≡ w) (fits : at + w �
   length_before = length-take-le at d (omega arith)
 
   -- what stands before v, and v
-  length-head : length (take at d ++ v) ≡ at + w
-  length-head = rw (length-append, length_before, wide)
+  length_head : length (take at d ++ v) ≡ at + w
+  length_head = rw (length-append, length_before, wide)
 
   -- before v all is as it was
   take-over : (n : ℕ) → n ≤ at → take n (over at v d) ≡ take n d
   unfolding over
   take-over n before =
       let in-before : n ≤ length (take at d) = rw length_before before in
-      let in_head : n ≤ length (take at d ++ v) = rw length-head (omega arith) in
+      let in_head : n ≤ length (take at d ++ v) = rw length_head (omega arith) in
       rw (take-append-le n (take at d ++ v) (drop (at + length v) d) in_head, take-append-le n (take at d) v in-before, take-take)
 
   -- behind v all is as it was
@@ -66,7 +66,7 @@ module _ (at w : ℕ) (v d : List ℕ) (wide : length v ≡ w) (fits : at + w �
   unfolding over
   drop-over n behind =
       let split : n ≡ at + w + (n - (at + w)) = omega arith in
-      rw (split, ← drop-drop (n - (at + w)) (at + w) (over at v d), drop_at (take at d ++ v) (drop (at + length v) d) (at + w) length-head, wide, drop-drop)
+      rw (split, ← drop-drop (n - (at + w)) (at + w) (over at v d), drop_at (take at d ++ v) (drop (at + length v) d) (at + w) length_head, wide, drop-drop)
 
   -- what was laid is read back
   pub part-over : part at w (over at v d) ≡ v
@@ -88,5 +88,5 @@ module _ (at w : ℕ) (v d : List ℕ) (wide : length v ≡ w) (fits : at + w �
   unfolding over
   over-over u =
       let behind : at + w ≤ at + w + length u = omega arith in
-      rw (take_at (take at d ++ v) (drop (at + length v) d) (at + w) length-head, drop-over (at + w + length u) behind)
+      rw (take_at (take at d ++ v) (drop (at + length v) d) (at + w) length_head, drop-over (at + w + length u) behind)
       (rw (length-append, wide, add_assoc, append_assoc (take at d) v u))

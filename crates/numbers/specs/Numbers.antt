@@ -3,14 +3,14 @@
 use Rattle.std.specs.Prelude.{ℕ, zero, suc, ◌+◌, ◌*◌, ◌/◌, ◌%◌, ◌^◌, ◌<◌, List, [], ◌∷◌, get_or}
 
 -- the number that bytes stand for when they follow others that stand for n
-unfoldable pub beFrom : ℕ → List ℕ → ℕ
-beFrom n [] = n
-beFrom n (x ∷ l) = beFrom (n * 256 + x) l
+unfoldable pub be_from : ℕ → List ℕ → ℕ
+be_from n [] = n
+be_from n (x ∷ l) = be_from (n * 256 + x) l
 
 -- the number that bytes stand for
 unfoldable pub be : List ℕ → ℕ
-unfolding beFrom
-be l = beFrom 0 l
+unfolding be_from
+be l = be_from 0 l
 
 -- the number x in w bytes
 unfoldable pub bytes_of : ℕ → ℕ → List ℕ

@@ -1,8 +1,8 @@
 // The tests before the authenticator, 1 to 6.
 ghost use Rattle.std.specs.Prelude.{◌≡◌};
-ghost use Rattle.requests.specs.Requests.{requestOf};
+ghost use Rattle.requests.specs.Requests.{request_of};
 ghost use Rattle.records.specs.Form.{form_of};
-ghost use Rattle.offers.specs.Offers.{offeredAt, offerBy, lookedAt};
+ghost use Rattle.offers.specs.Offers.{offered_at, offer_by, looked_at};
 
 use crate::Offer;
 use records::{Form, PAGE_SIZE, Tested, racks_of, record_size, test_record};
@@ -11,7 +11,7 @@ use requests::{Reading, read_request};
 
 // Tests 1 to 6 of perform and of repeat: of the sizes of page and answer, of the record and of the request.
 pub fn test_offer(page: usize, room: usize, record: &[u8], request: &[u8], form: Form) -> Offer
-    ensures { result ≡ offerBy (offeredAt (form_of form) page room «record».now request.now) (requestOf request.now) }
+    ensures { result ≡ offer_by (offered_at (form_of form) page room «record».now request.now) (request_of request.now) }
 {
     if page != PAGE_SIZE {
         return Offer::Refused(Refusal::Page);
@@ -30,7 +30,7 @@ pub fn test_offer(page: usize, room: usize, record: &[u8], request: &[u8], form:
 
 // Tests 1 to 6 of view: of the size of the page, of the record and of the rack.
 pub fn test_look(page: usize, record: &[u8], rack: usize, form: Form) -> Tested
-    ensures { result ≡ lookedAt (form_of form) page «record».now rack }
+    ensures { result ≡ looked_at (form_of form) page «record».now rack }
 {
     if page != PAGE_SIZE {
         return Tested::Refused(Refusal::Page);

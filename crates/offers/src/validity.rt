@@ -2,10 +2,10 @@
 ghost use Rattle.std.specs.Prelude.{◌≡◌, length};
 ghost use Rattle.numbers.specs.Comparing.{same};
 ghost use Rattle.records.specs.Form.{form_of};
-ghost use Rattle.records.specs.Page.{pageSize, pageSummary};
-ghost use Rattle.records.specs.Record.{recordSize, summary, authenticator};
+ghost use Rattle.records.specs.Page.{page_size, page_summary};
+ghost use Rattle.records.specs.Record.{record_size, summary, authenticator};
 ghost use Rattle.hmac.specs.Preparation.{halves};
-ghost use Rattle.bindings.specs.Sealing.{ownAuthenticator};
+ghost use Rattle.bindings.specs.Sealing.{own_authenticator};
 
 use bindings::authenticator_of;
 use numbers::same;
@@ -13,8 +13,8 @@ use records::{Form, authenticator_part, page_summary, summary_part};
 
 // Whether a record's authenticator is the one worked out from its own state and summary.
 pub fn valid<'a>(inner: &'a [u32; 8], outer: &'a [u32; 8], record: &[u8], form: Form) -> bool
-    requires { length «record».now ≡ recordSize (form_of form) }
-    ensures { result ≡ same (authenticator (form_of form) «record».now) (ownAuthenticator (form_of form) (halves inner.now outer.now) «record».now) }
+    requires { length «record».now ≡ record_size (form_of form) }
+    ensures { result ≡ same (authenticator (form_of form) «record».now) (own_authenticator (form_of form) (halves inner.now outer.now) «record».now) }
 {
     let worked_out = authenticator_of(inner, outer, record, form);
     same(authenticator_part(record, form), &worked_out)
@@ -22,9 +22,9 @@ pub fn valid<'a>(inner: &'a [u32; 8], outer: &'a [u32; 8], record: &[u8], form: 
 
 // Whether a record's summary is the page's.
 pub fn current(page: &[u8], record: &[u8], form: Form) -> bool
-    requires page_len { length page.now ≡ pageSize }
-    requires record_len { length «record».now ≡ recordSize (form_of form) }
-    ensures { result ≡ same (summary (form_of form) «record».now) (pageSummary page.now) }
+    requires page_len { length page.now ≡ page_size }
+    requires record_len { length «record».now ≡ record_size (form_of form) }
+    ensures { result ≡ same (summary (form_of form) «record».now) (page_summary page.now) }
 {
     let own = summary_part(record, form);
     let held = page_summary(page);

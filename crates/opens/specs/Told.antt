@@ -6,10 +6,10 @@ use Rattle.opens.specs.declared.OpenAnswer.{OpenAnswer}
 use Rattle.opens.specs.declared.OpenAnswer.TheVariants.{Opened as Accepted, Refused}
 
 -- 0, or the refusal's number
-abbrev pub openNumberTold : OpenAnswer → ℕ
-openNumberTold Accepted = 0
-openNumberTold (Refused r) = number_of r
+abbrev pub open_number_told : OpenAnswer → ℕ
+open_number_told Accepted = 0
+open_number_told (Refused r) = number_of r
 
 -- an answer, with what page and answer buffer hold then
-abbrev pub toldOpen : OpenAnswer → List ℕ → List ℕ → Outcome
-toldOpen r page answer = record { number = openNumberTold r; page = page; answer = answer }
+abbrev pub told_open : OpenAnswer → List ℕ → List ℕ → Outcome
+told_open r page answer = record { number = open_number_told r; page = page; answer = answer }

@@ -1,16 +1,16 @@
 // Open: the first record of this edition, with summary zero and its authenticator; the page stays as it is.
 ghost use Rattle.std.specs.Prelude.{◌≡◌, [], ◌∷◌, ◌≤◌, length};
 ghost use Rattle.numbers.specs.Parts.{over, join};
-ghost use Rattle.racks.specs.Racks.{firstState};
-ghost use Rattle.racks.specs.Layout.{bytesOfState};
+ghost use Rattle.racks.specs.Racks.{first_state};
+ghost use Rattle.racks.specs.Layout.{bytes_of_state};
 ghost use Rattle.racks.specs.Edition.{racks};
 ghost use Rattle.records.specs.Form.{version1};
-ghost use Rattle.records.specs.Page.{hashSize, pageSize, pageSummary};
-ghost use Rattle.records.specs.Record.{recordSize, header};
-ghost use Rattle.answers.specs.Hashing.{boundRecord};
+ghost use Rattle.records.specs.Page.{hash_size, page_size, page_summary};
+ghost use Rattle.records.specs.Record.{record_size, header};
+ghost use Rattle.answers.specs.Hashing.{bound_record};
 ghost use Rattle.answers.specs.Answers.{opened};
-ghost use Rattle.answers.specs.Edition.{thisEdition};
-ghost use Rattle.opens.specs.Told.{toldOpen};
+ghost use Rattle.answers.specs.Edition.{this_edition};
+ghost use Rattle.opens.specs.Told.{told_open};
 
 use bindings::{lay, prepared, seal};
 use numbers::all_zero;
@@ -26,7 +26,7 @@ pub enum OpenAnswer {
 
 // Lays the first record at the front of the answer, if the page is fresh.
 pub fn open(page: &[u8], answer: &mut [u8]) -> OpenAnswer
-    ensures { toldOpen result page.now answer.new ≡ opened thisEdition page.now answer.old }
+    ensures { told_open result page.now answer.new ≡ opened this_edition page.now answer.old }
 {
     if page.len() != PAGE_SIZE {
         return OpenAnswer::Refused(Refusal::Page);
@@ -43,9 +43,9 @@ pub fn open(page: &[u8], answer: &mut [u8]) -> OpenAnswer
 
 // Lays the first record at the front of the answer, bound to the page's summary.
 fn write_first(page: &[u8], answer: &mut [u8])
-    requires page_len { length page.now ≡ pageSize }
-    requires version1_in_bounds { recordSize version1 ≤ length answer.old }
-    ensures { answer.new ≡ over 0 (boundRecord thisEdition page.now (pageSummary page.now) (bytesOfState (firstState racks))) answer.old }
+    requires page_len { length page.now ≡ page_size }
+    requires version1_in_bounds { record_size version1 ≤ length answer.old }
+    ensures { answer.new ≡ over 0 (bound_record this_edition page.now (page_summary page.now) (bytes_of_state (first_state racks))) answer.old }
 {
     lay_first(answer, page_summary(page));
     let key = prepared(page);
@@ -55,9 +55,9 @@ fn write_first(page: &[u8], answer: &mut [u8])
 // Lays the header, the first state and a summary at the front of the answer. The array of the first state is gone when this
 // returns, and its copy in the answer is what is hashed.
 fn lay_first(answer: &mut [u8], summary: &[u8])
-    requires version1_in_bounds { recordSize version1 ≤ length answer.old }
-    requires summary_len { length summary.now ≡ hashSize }
-    ensures { answer.new ≡ over 0 (join (header version1 ∷ bytesOfState (firstState racks) ∷ summary.now ∷ [])) answer.old }
+    requires version1_in_bounds { record_size version1 ≤ length answer.old }
+    requires summary_len { length summary.now ≡ hash_size }
+    ensures { answer.new ≡ over 0 (join (header version1 ∷ bytes_of_state (first_state racks) ∷ summary.now ∷ [])) answer.old }
 {
     let header = header_of(Form::Version1);
     let state = first_state();

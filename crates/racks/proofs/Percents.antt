@@ -7,14 +7,14 @@ use native.Mathlib.Nat.{div-le_of_le-mul}
 use native.Mathlib.Omega.{arith}
 use borrow.Author.Tests.{eq-eqb, ne_eqb}
 use Rattle.racks.specs.declared.Rack.{Rack}
-use Rattle.racks.specs.Rule.{goodRack}
+use Rattle.racks.specs.Rule.{good_rack}
 use Rattle.racks.specs.Figures.{percent}
-use Rattle.racks.proofs.StateRule.{good-iff}
+use Rattle.racks.proofs.StateRule.{good_iff}
 
 -- a slot with no rack
-pub percent-none : (r : Rack) → r.capacity ≡ 0 → percent r ≡ 0
+pub percent_none : (r : Rack) → r.capacity ≡ 0 → percent r ≡ 0
 unfolding percent
-percent-none r e = rw (eq-eqb _ _ e)
+percent_none r e = rw (eq-eqb _ _ e)
 
 -- a rack with a capacity
 pub percent-some : (r : Rack) → (r.capacity ≡ 0 → ⊥) → percent r ≡ 100 * r.stored / r.capacity
@@ -26,7 +26,7 @@ pub hundred : (m n : ℕ) → m ≤ n → 100 * m / n ≤ 100
 hundred m n h = div-le_of_le-mul n (omega arith)
 
 -- under the rule a rack with a capacity is at most full
-pub percent-le : (r : Rack) → goodRack r ≡ true → 0 < r.capacity → percent r ≤ 100
+pub percent-le : (r : Rack) → good_rack r ≡ true → 0 < r.capacity → percent r ≤ 100
 percent-le r t h =
     let some : r.capacity ≡ 0 → ⊥ = omega arith in
-    rw (percent-some r some) (hundred r.stored r.capacity ((good-iff r).0 t).room)
+    rw (percent-some r some) (hundred r.stored r.capacity ((good_iff r).0 t).room)

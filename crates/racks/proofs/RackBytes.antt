@@ -7,50 +7,50 @@ use mathlib.Core.List.{List, map}
 use lib.ListN.{length}
 use Rattle.numbers.specs.Numbers.{Bytes}
 use Rattle.numbers.specs.Parts.{part, over, size, cut_at, join}
-use Rattle.numbers.proofs.Numbers.{be-bytesOf}
-use Rattle.numbers.proofs.Layouts.{length-join, join-cutAt, cutAt-join}
+use Rattle.numbers.proofs.Numbers.{be-bytes_of}
+use Rattle.numbers.proofs.Layouts.{length-join, join-cut_at, cut_at-join}
 use Rattle.racks.specs.declared.Rack.{Rack}
-use Rattle.racks.specs.Layout.{rackWidths, rackSize, rackOfFields, numbersOfRack, fieldsOfRack, rackOf, bytesOfRack, FitsWidths}
-use Rattle.numbers.proofs.Forms.{part-whole, cutAt-part, widths-fieldsOf, fieldsOf-cutAt, bytes-fieldsOf, bytes-join}
-use Rattle.numbers.proofs.Laying.{layAt, layAt-join}
+use Rattle.racks.specs.Layout.{rack_widths, rack_size, rack_of_fields, numbers_of_rack, fields_of_rack, rack_of, bytes_of_rack, FitsWidths}
+use Rattle.numbers.proofs.Forms.{part-whole, cut_at-part, widths_fields_of, fields_of-cut_at, bytes-fields_of, bytes-join}
+use Rattle.numbers.proofs.Laying.{lay_at, lay_at_join}
 
 -- the bytes of a rack's fields have the widths of the form
-widths-rack : (r : Rack) → map length (fieldsOfRack r) ≡ rackWidths
-widths-rack r = widths-fieldsOf rackWidths (numbersOfRack r) refl
+widths_rack : (r : Rack) → map length (fields_of_rack r) ≡ rack_widths
+widths_rack r = widths_fields_of rack_widths (numbers_of_rack r) refl
 
 -- a rack takes as many bytes as its widths say
-pub length-bytesOfRack : (r : Rack) → length (bytesOfRack r) ≡ rackSize
-unfolding bytesOfRack
-length-bytesOfRack r = length-join (fieldsOfRack r) ∙ ap size (widths-rack r)
+pub length-bytes_of_rack : (r : Rack) → length (bytes_of_rack r) ≡ rack_size
+unfolding bytes_of_rack
+length-bytes_of_rack r = length-join (fields_of_rack r) ∙ ap size (widths_rack r)
 
 -- they are bytes
-pub bytes-bytesOfRack : (r : Rack) → Bytes (bytesOfRack r)
-unfolding bytesOfRack
-bytes-bytesOfRack r = bytes-join (fieldsOfRack r) (bytes-fieldsOf rackWidths (numbersOfRack r))
+pub bytes-bytes_of_rack : (r : Rack) → Bytes (bytes_of_rack r)
+unfolding bytes_of_rack
+bytes-bytes_of_rack r = bytes-join (fields_of_rack r) (bytes-fields_of rack_widths (numbers_of_rack r))
 
 -- a rack that the widths hold is read back as it was written
-pub rackOf-bytesOfRack : (r : Rack) → FitsWidths r → rackOf (bytesOfRack r) ≡ r
-unfolding rackOf bytesOfRack
-rackOf-bytesOfRack r f =
-    let all : part 0 rackSize (bytesOfRack r) ≡ bytesOfRack r = part-whole rackSize (bytesOfRack r) (length-bytesOfRack r) in
-    let fields = cutAt-join 0 rackWidths (bytesOfRack r) (fieldsOfRack r) (widths-rack r) all in
-    ap rackOfFields fields
-    ∙ rw (be-bytesOf 4 r.capacity f.capacity, be-bytesOf 4 r.stored f.stored, be-bytesOf 8 r.taken f.taken, be-bytesOf 8 r.given f.given)
+pub rack_of-bytes_of_rack : (r : Rack) → FitsWidths r → rack_of (bytes_of_rack r) ≡ r
+unfolding rack_of bytes_of_rack
+rack_of-bytes_of_rack r f =
+    let all : part 0 rack_size (bytes_of_rack r) ≡ bytes_of_rack r = part-whole rack_size (bytes_of_rack r) (length-bytes_of_rack r) in
+    let fields = cut_at-join 0 rack_widths (bytes_of_rack r) (fields_of_rack r) (widths_rack r) all in
+    ap rack_of_fields fields
+    ∙ rw (be-bytes_of 4 r.capacity f.capacity, be-bytes_of 4 r.stored f.stored, be-bytes_of 8 r.taken f.taken, be-bytes_of 8 r.given f.given)
 
 -- bytes are written back as they were read
-pub bytesOfRack-rackOf : (l : List ℕ) → Bytes l → length l ≡ rackSize → bytesOfRack (rackOf l) ≡ l
-unfolding rackOf bytesOfRack
-bytesOfRack-rackOf l bytes e =
-    ap join (fieldsOf-cutAt 0 rackWidths l bytes (rw e (le_refl rackSize))) ∙ join-cutAt 0 rackWidths l ∙ part-whole rackSize l e
+pub bytes_of_rack-rack_of : (l : List ℕ) → Bytes l → length l ≡ rack_size → bytes_of_rack (rack_of l) ≡ l
+unfolding rack_of bytes_of_rack
+bytes_of_rack-rack_of l bytes e =
+    ap join (fields_of-cut_at 0 rack_widths l bytes (rw e (le_refl rack_size))) ∙ join-cut_at 0 rack_widths l ∙ part-whole rack_size l e
 
 -- the rack that lies at a place, field by field
-pub rackOf-part : (at : ℕ) (l : List ℕ) → rackOf (part at rackSize l) ≡ rackOfFields (cut_at at rackWidths l)
-unfolding rackOf
-rackOf-part at l =
+pub rack_of-part : (at : ℕ) (l : List ℕ) → rack_of (part at rack_size l) ≡ rack_of_fields (cut_at at rack_widths l)
+unfolding rack_of
+rack_of-part at l =
     let start : at + 0 ≡ at = add-zero at in
-    ap rackOfFields (rw start at (cutAt-part at rackSize 0 rackWidths l (le_refl rackSize)))
+    ap rack_of_fields (rw start at (cut_at-part at rack_size 0 rack_widths l (le_refl rack_size)))
 
 -- r laid field by field is r laid
-pub layAt-rack : (at : ℕ) (r : Rack) (d : List ℕ) → at + rackSize ≤ length d → layAt at (fieldsOfRack r) d ≡ over at (bytesOfRack r) d
-unfolding bytesOfRack
-layAt-rack at r d fits = layAt-join at (fieldsOfRack r) d (rw (length-bytesOfRack r) fits)
+pub lay_at_rack : (at : ℕ) (r : Rack) (d : List ℕ) → at + rack_size ≤ length d → lay_at at (fields_of_rack r) d ≡ over at (bytes_of_rack r) d
+unfolding bytes_of_rack
+lay_at_rack at r d fits = lay_at_join at (fields_of_rack r) d (rw (length-bytes_of_rack r) fits)

@@ -8,6 +8,6 @@ unfoldable pub percent : Rack → ℕ
 percent r = cond (eqb r.capacity 0) 0 (100 * r.stored / r.capacity)
 
 -- the charge over all racks
-unfoldable pub totalStored : State → ℕ
-totalStored [] = 0
-totalStored (r ∷ s) = r.stored + totalStored s
+unfoldable pub total_stored : State → ℕ
+total_stored [] = 0
+total_stored (r ∷ s) = r.stored + total_stored s

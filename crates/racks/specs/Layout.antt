@@ -7,39 +7,39 @@ use Rattle.racks.specs.declared.Rack.{Rack}
 use Rattle.racks.specs.Racks.{State}
 
 -- the widths of a rack's fields, in their order
-abbrev pub rackWidths : List ℕ
-rackWidths = 4 ∷ 4 ∷ 8 ∷ 8 ∷ []
+abbrev pub rack_widths : List ℕ
+rack_widths = 4 ∷ 4 ∷ 8 ∷ 8 ∷ []
 
 -- how many bytes a rack takes
-abbrev pub rackSize : ℕ
-rackSize = size rackWidths
+abbrev pub rack_size : ℕ
+rack_size = size rack_widths
 
 -- a rack from the bytes of its fields
-abbrev pub rackOfFields : List (List ℕ) → Rack
-rackOfFields fs = record { capacity = be (get_or fs 0 []); stored = be (get_or fs 1 []); taken = be (get_or fs 2 []); given = be (get_or fs 3 []) }
+abbrev pub rack_of_fields : List (List ℕ) → Rack
+rack_of_fields fs = record { capacity = be (get_or fs 0 []); stored = be (get_or fs 1 []); taken = be (get_or fs 2 []); given = be (get_or fs 3 []) }
 
 -- the figures of a rack, in the order of its fields, and the bytes of these fields
-abbrev pub numbersOfRack : Rack → List ℕ
-numbersOfRack r = r.capacity ∷ r.stored ∷ r.taken ∷ r.given ∷ []
+abbrev pub numbers_of_rack : Rack → List ℕ
+numbers_of_rack r = r.capacity ∷ r.stored ∷ r.taken ∷ r.given ∷ []
 
-abbrev pub fieldsOfRack : Rack → List (List ℕ)
-fieldsOfRack r = fields_of rackWidths (numbersOfRack r)
+abbrev pub fields_of_rack : Rack → List (List ℕ)
+fields_of_rack r = fields_of rack_widths (numbers_of_rack r)
 
 -- the rack that bytes stand for
-unfoldable pub rackOf : List ℕ → Rack
-rackOf l = rackOfFields (cut_at 0 rackWidths l)
+unfoldable pub rack_of : List ℕ → Rack
+rack_of l = rack_of_fields (cut_at 0 rack_widths l)
 
 -- the bytes of a rack
-unfoldable pub bytesOfRack : Rack → List ℕ
-bytesOfRack r = join (fieldsOfRack r)
+unfoldable pub bytes_of_rack : Rack → List ℕ
+bytes_of_rack r = join (fields_of_rack r)
 
 -- the n racks that bytes stand for
 unfoldable pub state_of : ℕ → List ℕ → State
-state_of n l = map rackOf (cut_at 0 (replicate n rackSize) l)
+state_of n l = map rack_of (cut_at 0 (replicate n rack_size) l)
 
 -- the bytes of a state
-unfoldable pub bytesOfState : State → List ℕ
-bytesOfState s = join (map bytesOfRack s)
+unfoldable pub bytes_of_state : State → List ℕ
+bytes_of_state s = join (map bytes_of_rack s)
 
 -- each figure is held by its width, as those of a rack that was read are
 pub record FitsWidths (r : Rack) : Type 0 where

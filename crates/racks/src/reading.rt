@@ -1,14 +1,14 @@
 // A rack out of bytes.
 ghost use Rattle.std.specs.Prelude.{◌≡◌, ◌+◌, ◌≤◌, length};
 ghost use Rattle.numbers.specs.Parts.{part};
-ghost use Rattle.racks.specs.Layout.{rackSize, rackOf};
+ghost use Rattle.racks.specs.Layout.{rack_size, rack_of};
 
 use crate::Rack;
 
 // The rack in the bytes of s from `at` on.
 pub fn read_rack(s: &[u8], at: usize) -> Rack
-    requires { at + rackSize ≤ length s.now }
-    ensures { result ≡ rackOf (part at rackSize s.now) }
+    requires { at + rack_size ≤ length s.now }
+    ensures { result ≡ rack_of (part at rack_size s.now) }
 {
     Rack {
         capacity: numbers::read32(s, at),

@@ -1,13 +1,13 @@
 // The state rule, tested where the racks lie.
 ghost use Rattle.std.specs.Prelude.{◌≡◌, ◌/◌, length};
-ghost use Rattle.racks.specs.Layout.{rackSize, state_of};
-ghost use Rattle.racks.specs.Rule.{goodRack, goodState};
+ghost use Rattle.racks.specs.Layout.{rack_size, state_of};
+ghost use Rattle.racks.specs.Rule.{good_rack, good_state};
 
 use crate::{AMOUNT_LIMIT, FLOW_LIMIT, RACK_SIZE, Rack, read_rack};
 
 // Whether r keeps the rule.
 pub fn good_rack(r: Rack) -> bool
-    ensures { result ≡ goodRack r }
+    ensures { result ≡ good_rack r }
 {
     r.capacity <= AMOUNT_LIMIT
         && r.stored <= r.capacity
@@ -18,7 +18,7 @@ pub fn good_rack(r: Rack) -> bool
 
 // Whether every rack of the state in the bytes s keeps the rule.
 pub fn good_state(s: &[u8]) -> bool
-    ensures { result ≡ goodState (state_of (length s.now / rackSize) s.now) }
+    ensures { result ≡ good_state (state_of (length s.now / rack_size) s.now) }
 {
     let n = s.len() / RACK_SIZE;
     let mut i = 0;

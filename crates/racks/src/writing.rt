@@ -1,14 +1,14 @@
 // A rack into bytes.
 ghost use Rattle.std.specs.Prelude.{◌≡◌, ◌+◌, ◌≤◌, length};
 ghost use Rattle.numbers.specs.Parts.{over};
-ghost use Rattle.racks.specs.Layout.{rackSize, bytesOfRack};
+ghost use Rattle.racks.specs.Layout.{rack_size, bytes_of_rack};
 
 use crate::Rack;
 
 // Lays r into the bytes of d from `at` on.
 pub fn write_rack(d: &mut [u8], at: usize, r: Rack)
-    requires { at + rackSize ≤ length d.old }
-    ensures { d.new ≡ over at (bytesOfRack r) d.old }
+    requires { at + rack_size ≤ length d.old }
+    ensures { d.new ≡ over at (bytes_of_rack r) d.old }
 {
     numbers::write32(d, at, r.capacity);
     numbers::write32(d, at + 4, r.stored);

@@ -8,8 +8,8 @@ use lib.Dec.{lit<}
 use Rattle.records.specs.declared.Form.{Form as Chosen}
 use Rattle.records.specs.declared.Form.TheVariants.{Version1}
 use Rattle.records.specs.Form.{Form, form_of}
-use Rattle.records.specs.Record.{stateSize, length_of, header}
-use Rattle.records.specs.Edition.{a-record-begins}
+use Rattle.records.specs.Record.{state_size, length_of, header}
+use Rattle.records.specs.Edition.{a_record_begins}
 
 -- a form whose length fits two bytes, and its version one
 pub record Fits (f : Form) : Type 0 where
@@ -20,15 +20,15 @@ pub fits : (x : Chosen) → Fits (form_of x)
 fits Version1 = record { length = lit< tt; version = lit< tt }
 
 -- its state can be hashed
-pub state-fits : (x : Chosen) → stateSize (form_of x) ≤ 65535
-state-fits x = let short = (fits x).length in omega arith
+pub state_fits : (x : Chosen) → state_size (form_of x) ≤ 65535
+state_fits x = let short = (fits x).length in omega arith
 
 -- the code's own words
-pub racks-said : (x : Chosen) → 16 ≡ (form_of x).racks
-racks-said Version1 = refl
+pub racks_said : (x : Chosen) → 16 ≡ (form_of x).racks
+racks_said Version1 = refl
 
-pub header-said : (x : Chosen) → 0x01 ∷ 0xC1 ∷ 0x01 ∷ [] ≡ header (form_of x)
-header-said Version1 = sym a-record-begins
+pub header_said : (x : Chosen) → 0x01 ∷ 0xC1 ∷ 0x01 ∷ [] ≡ header (form_of x)
+header_said Version1 = sym a_record_begins
 
-pub tag-said : (x : Chosen) → 0x01 ≡ (form_of x).tag
-tag-said Version1 = refl
+pub tag_said : (x : Chosen) → 0x01 ≡ (form_of x).tag
+tag_said Version1 = refl

@@ -9,84 +9,84 @@ use lib.Dec.{eqb}
 use borrow.Author.Tests.{eqb-true, eq-eqb}
 use Rattle.numbers.specs.Numbers.{be, Bytes}
 use Rattle.numbers.specs.Parts.{size, join}
-use Rattle.numbers.proofs.Numbers.{length-bytesOf, be-bytesOf}
-use Rattle.numbers.proofs.Bytes.{bytes-part, bytes-bytesOf}
+use Rattle.numbers.proofs.Numbers.{length-bytes_of, be-bytes_of}
+use Rattle.numbers.proofs.Bytes.{bytes-part, bytes-bytes_of}
 use Rattle.numbers.proofs.Parts.{length_part}
 use Rattle.numbers.proofs.Forms.{part-whole, bytes-join}
-use Rattle.numbers.proofs.Layouts.{length-join, join-cutAt}
+use Rattle.numbers.proofs.Layouts.{length-join, join-cut_at}
 use Rattle.records.specs.Form.{Form}
-use Rattle.records.specs.Page.{hashSize}
-use Rattle.records.specs.Record.{stateSize, recordWidths, recordSize, length_of, fields, lengthField, versionField, stateBytes, summary, authenticator, headerFields, recordOf, header, rightSize, rightVersion}
+use Rattle.records.specs.Page.{hash_size}
+use Rattle.records.specs.Record.{state_size, record_widths, record_size, length_of, fields, length_field, version_field, state_bytes, summary, authenticator, header_fields, record_of, header, right_size, right_version}
 use Rattle.records.proofs.FormLaws.{Fits}
 use Rattle.records.proofs.Headers.{field_is}
-use Rattle.records.proofs.PageBytes.{cut-joined}
+use Rattle.records.proofs.PageBytes.{cut_joined}
 
-module _ (f : Form) (st su au : List ℕ) (s : length st ≡ stateSize f) (u : length su ≡ hashSize) (a : length au ≡ hashSize) where
+module _ (f : Form) (st su au : List ℕ) (s : length st ≡ state_size f) (u : length su ≡ hash_size) (a : length au ≡ hash_size) where
   -- ---- reading what was written
 
   written : List (List ℕ)
-  written = headerFields f ++ st ∷ su ∷ au ∷ []
+  written = header_fields f ++ st ∷ su ∷ au ∷ []
 
-  widths : map length written ≡ recordWidths f
+  widths : map length written ≡ record_widths f
   unfolding written
   widths =
-      let l = length-bytesOf 2 (length_of f) in
-      let w = length-bytesOf 1 f.version in
+      let l = length-bytes_of 2 (length_of f) in
+      let w = length-bytes_of 1 f.version in
       cc
 
-  record-fields : fields f (recordOf f st su au) ≡ written
-  unfolding recordOf written
-  record-fields = cut-joined (recordWidths f) written widths
+  record_fields : fields f (record_of f st su au) ≡ written
+  unfolding record_of written
+  record_fields = cut_joined (record_widths f) written widths
 
-  pub length-record : length (recordOf f st su au) ≡ recordSize f
-  unfolding recordOf written
-  length-record = length-join written ∙ ap size widths
+  pub length_record : length (record_of f st su au) ≡ record_size f
+  unfolding record_of written
+  length_record = length-join written ∙ ap size widths
 
-  pub record-state : stateBytes f (recordOf f st su au) ≡ st
+  pub record_state : state_bytes f (record_of f st su au) ≡ st
   unfolding written
-  record-state = ap (λ (fs : List (List ℕ)). get_or fs 2 []) record-fields
+  record_state = ap (λ (fs : List (List ℕ)). get_or fs 2 []) record_fields
 
-  pub record-summary : summary f (recordOf f st su au) ≡ su
+  pub record_summary : summary f (record_of f st su au) ≡ su
   unfolding written
-  record-summary = ap (λ (fs : List (List ℕ)). get_or fs 3 []) record-fields
+  record_summary = ap (λ (fs : List (List ℕ)). get_or fs 3 []) record_fields
 
-  pub record-authenticator : authenticator f (recordOf f st su au) ≡ au
+  pub record_authenticator : authenticator f (record_of f st su au) ≡ au
   unfolding written
-  record-authenticator = ap (λ (fs : List (List ℕ)). get_or fs 4 []) record-fields
+  record_authenticator = ap (λ (fs : List (List ℕ)). get_or fs 4 []) record_fields
 
   -- ---- a record that was written passes the tests of its size and its version
 
-  pub record-size : Fits f → rightSize f (recordOf f st su au) ≡ true
-  unfolding rightSize written
-  record-size fits =
-      let field : be (lengthField f (recordOf f st su au)) ≡ length_of f =
-      ap (λ (fs : List (List ℕ)). be (get_or fs 0 [])) record-fields ∙ be-bytesOf 2 (length_of f) fits.length in
-      (and-eq-true_iff _ _).1 (eq-eqb _ _ length-record, eq-eqb _ _ field)
+  pub record_size_lem : Fits f → right_size f (record_of f st su au) ≡ true
+  unfolding right_size written
+  record_size_lem fits =
+      let field : be (length_field f (record_of f st su au)) ≡ length_of f =
+      ap (λ (fs : List (List ℕ)). be (get_or fs 0 [])) record_fields ∙ be-bytes_of 2 (length_of f) fits.length in
+      (and-eq-true_iff _ _).1 (eq-eqb _ _ length_record, eq-eqb _ _ field)
 
-  pub record-version : Fits f → rightVersion f (recordOf f st su au) ≡ true
-  unfolding rightVersion written
-  record-version fits =
-      eq-eqb _ _ (ap (λ (fs : List (List ℕ)). be (get_or fs 1 [])) record-fields ∙ be-bytesOf 1 f.version fits.version)
+  pub record_version : Fits f → right_version f (record_of f st su au) ≡ true
+  unfolding right_version written
+  record_version fits =
+      eq-eqb _ _ (ap (λ (fs : List (List ℕ)). be (get_or fs 1 [])) record_fields ∙ be-bytes_of 1 f.version fits.version)
 
   -- ---- the header comes first
-  pub record-begins : recordOf f st su au ≡ header f ++ st ++ su ++ au
-  unfolding recordOf header
-  record-begins = simp (append_assoc, append-nil)
+  pub record_begins : record_of f st su au ≡ header f ++ st ++ su ++ au
+  unfolding record_of header
+  record_begins = simp (append_assoc, append-nil)
 
-pub bytes-record : (f : Form) (st su au : List ℕ) → Bytes st → Bytes su → Bytes au → Bytes (recordOf f st su au)
-unfolding recordOf
-bytes-record f st su au s u a =
-    bytes-join (headerFields f ++ st ∷ su ∷ au ∷ []) (bytes-bytesOf 2 (length_of f), (bytes-bytesOf 1 f.version, (s, (u, (a, tt)))))
+pub bytes_record : (f : Form) (st su au : List ℕ) → Bytes st → Bytes su → Bytes au → Bytes (record_of f st su au)
+unfolding record_of
+bytes_record f st su au s u a =
+    bytes-join (header_fields f ++ st ∷ su ∷ au ∷ []) (bytes-bytes_of 2 (length_of f), (bytes-bytes_of 1 f.version, (s, (u, (a, tt)))))
 
 -- ---- writing what was read
-pub record-again : (f : Form) (l : List ℕ) → Bytes l → rightSize f l ≡ true → rightVersion f l ≡ true
-    → recordOf f (stateBytes f l) (summary f l) (authenticator f l) ≡ l
-unfolding recordOf rightSize rightVersion
-record-again f l bytes size version =
-    let both = (and-eq-true_iff (eqb (length l) (recordSize f)) _).0 size in
-    let long : length l ≡ recordSize f = eqb-true (length l) (recordSize f) both.0 in
-    let first = field_is 2 (length_of f) (lengthField f l) (length_part 0 2 l (omega arith)) (bytes-part 0 2 l bytes) (eqb-true _ _ both.1) in
-    let second = field_is 1 f.version (versionField f l) (length_part 2 1 l (omega arith)) (bytes-part 2 1 l bytes) (eqb-true _ _ version) in
-    ap₂ (λ (x y : List ℕ). join (x ∷ y ∷ stateBytes f l ∷ summary f l ∷ authenticator f l ∷ [])) (sym first) (sym second)
-    ∙ join-cutAt 0 (recordWidths f) l
-    ∙ part-whole (recordSize f) l long
+pub record_again : (f : Form) (l : List ℕ) → Bytes l → right_size f l ≡ true → right_version f l ≡ true
+    → record_of f (state_bytes f l) (summary f l) (authenticator f l) ≡ l
+unfolding record_of right_size right_version
+record_again f l bytes size version =
+    let both = (and-eq-true_iff (eqb (length l) (record_size f)) _).0 size in
+    let long : length l ≡ record_size f = eqb-true (length l) (record_size f) both.0 in
+    let first = field_is 2 (length_of f) (length_field f l) (length_part 0 2 l (omega arith)) (bytes-part 0 2 l bytes) (eqb-true _ _ both.1) in
+    let second = field_is 1 f.version (version_field f l) (length_part 2 1 l (omega arith)) (bytes-part 2 1 l bytes) (eqb-true _ _ version) in
+    ap₂ (λ (x y : List ℕ). join (x ∷ y ∷ state_bytes f l ∷ summary f l ∷ authenticator f l ∷ [])) (sym first) (sym second)
+    ∙ join-cut_at 0 (record_widths f) l
+    ∙ part-whole (record_size f) l long

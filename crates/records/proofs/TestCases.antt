@@ -8,38 +8,38 @@ use lib.Dec.{lit<}
 use mathlib.Core.List.{List}
 use lib.ListN.{length}
 use Rattle.refusals.specs.declared.Refusal.TheVariants.{Record, Version, State}
-use Rattle.racks.specs.Layout.{rackSize, state_of}
-use Rattle.racks.specs.Rule.{goodState}
+use Rattle.racks.specs.Layout.{rack_size, state_of}
+use Rattle.racks.specs.Rule.{good_state}
 use Rattle.numbers.proofs.Parts.{length_part}
 use Rattle.records.specs.Form.{Form}
 use Rattle.records.specs.declared.Tested.TheVariants.{Passed, Refused}
-use Rattle.records.specs.Record.{recordSize, stateSize, stateBytes, rightSize, rightVersion, rightState}
+use Rattle.records.specs.Record.{record_size, state_size, state_bytes, right_size, right_version, right_state}
 use Rattle.records.specs.Tests.{tested}
 
 -- the tests' own values
-by_tests : (f : Form) (l : List ℕ) (a b c : Bool) → rightSize f l ≡ a → rightVersion f l ≡ b → rightState f l ≡ c
+by_tests : (f : Form) (l : List ℕ) (a b c : Bool) → right_size f l ≡ a → right_version f l ≡ b → right_state f l ≡ c
     → tested f l ≡ cond a (cond b (cond c Passed (Refused State)) (Refused Version)) (Refused Record)
 unfolding tested
 by_tests f l a b c p q r =
-    ap₂ (λ (x y : Bool). cond x (cond y (cond (rightState f l) Passed (Refused State)) (Refused Version)) (Refused Record)) p q
+    ap₂ (λ (x y : Bool). cond x (cond y (cond (right_state f l) Passed (Refused State)) (Refused Version)) (Refused Record)) p q
     ∙ ap (λ (z : Bool). cond a (cond b (cond z Passed (Refused State)) (Refused Version)) (Refused Record)) r
 
-pub refused-3 : (f : Form) (l : List ℕ) → rightSize f l ≡ false → Refused Record ≡ tested f l
-refused-3 f l p = sym (by_tests f l false _ _ p refl refl)
+pub refused_3 : (f : Form) (l : List ℕ) → right_size f l ≡ false → Refused Record ≡ tested f l
+refused_3 f l p = sym (by_tests f l false _ _ p refl refl)
 
-pub refused-4 : (f : Form) (l : List ℕ) → rightSize f l ≡ true → rightVersion f l ≡ false → Refused Version ≡ tested f l
-refused-4 f l p q = sym (by_tests f l true false _ p q refl)
+pub refused_4 : (f : Form) (l : List ℕ) → right_size f l ≡ true → right_version f l ≡ false → Refused Version ≡ tested f l
+refused_4 f l p q = sym (by_tests f l true false _ p q refl)
 
-pub refused-5 : (f : Form) (l : List ℕ) → rightSize f l ≡ true → rightVersion f l ≡ true → rightState f l ≡ false → Refused State ≡ tested f l
-refused-5 f l p q r = sym (by_tests f l true true false p q r)
+pub refused_5 : (f : Form) (l : List ℕ) → right_size f l ≡ true → right_version f l ≡ true → right_state f l ≡ false → Refused State ≡ tested f l
+refused_5 f l p q r = sym (by_tests f l true true false p q r)
 
-pub all-passed : (f : Form) (l : List ℕ) → rightSize f l ≡ true → rightVersion f l ≡ true → rightState f l ≡ true → Passed ≡ tested f l
-all-passed f l p q r = sym (by_tests f l true true true p q r)
+pub all_passed : (f : Form) (l : List ℕ) → right_size f l ≡ true → right_version f l ≡ true → right_state f l ≡ true → Passed ≡ tested f l
+all_passed f l p q r = sym (by_tests f l true true true p q r)
 
 -- the state rule, tested on the state's own bytes
-pub state-rule : (f : Form) (l s : List ℕ) → length l ≡ recordSize f → s ≡ stateBytes f l → goodState (state_of (length s / rackSize) s) ≡ rightState f l
-unfolding rightState
-state-rule f l s long is =
-    let wide : length (stateBytes f l) ≡ stateSize f = length_part 3 (stateSize f) l (omega arith) in
-    let count : length s / rackSize ≡ f.racks = ap (λ (m : List ℕ). length m / rackSize) is ∙ ap (λ (m : ℕ). m / rackSize) wide ∙ mul-div_cancel f.racks (lit< tt) in
-    ap₂ (λ (k : ℕ) (m : List ℕ). goodState (state_of k m)) count is
+pub state_rule : (f : Form) (l s : List ℕ) → length l ≡ record_size f → s ≡ state_bytes f l → good_state (state_of (length s / rack_size) s) ≡ right_state f l
+unfolding right_state
+state_rule f l s long is =
+    let wide : length (state_bytes f l) ≡ state_size f = length_part 3 (state_size f) l (omega arith) in
+    let count : length s / rack_size ≡ f.racks = ap (λ (m : List ℕ). length m / rack_size) is ∙ ap (λ (m : ℕ). m / rack_size) wide ∙ mul-div_cancel f.racks (lit< tt) in
+    ap₂ (λ (k : ℕ) (m : List ℕ). good_state (state_of k m)) count is

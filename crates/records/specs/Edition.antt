@@ -2,14 +2,14 @@
 use Rattle.std.specs.Prelude.{◌≡◌, refl, [], ◌∷◌}
 use Rattle.numbers.specs.Numbers.{bytes_of}
 use Rattle.records.specs.Form.{version1}
-use Rattle.records.specs.Record.{recordSize, length_of, header}
+use Rattle.records.specs.Record.{record_size, length_of, header}
 
-pub a-record-takes-451 : recordSize version1 ≡ 451
-a-record-takes-451 = refl
+pub a_record_takes_451 : record_size version1 ≡ 451
+a_record_takes_451 = refl
 
-pub its-length-is-449 : length_of version1 ≡ 449
-its-length-is-449 = refl
+pub its_length_is_449 : length_of version1 ≡ 449
+its_length_is_449 = refl
 
-pub a-record-begins : header version1 ≡ 0x01 ∷ 0xC1 ∷ 0x01 ∷ []
+pub a_record_begins : header version1 ≡ 0x01 ∷ 0xC1 ∷ 0x01 ∷ []
 unfolding header bytes_of
-a-record-begins = refl
+a_record_begins = refl

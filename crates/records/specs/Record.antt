@@ -4,39 +4,39 @@ use Rattle.std.specs.Prelude.{ℕ, ◌-◌, ◌*◌, Bool, ◌&&◌, List, [], �
 use Rattle.numbers.specs.Numbers.{be}
 use Rattle.numbers.specs.Parts.{size, cut_at, fields_of, join}
 use Rattle.racks.specs.Racks.{State}
-use Rattle.racks.specs.Layout.{rackSize, state_of}
-use Rattle.racks.specs.Rule.{goodState}
+use Rattle.racks.specs.Layout.{rack_size, state_of}
+use Rattle.racks.specs.Rule.{good_state}
 use Rattle.records.specs.Form.{Form}
-use Rattle.records.specs.Page.{hashSize}
+use Rattle.records.specs.Page.{hash_size}
 
 -- how many bytes the racks take
-abbrev pub stateSize : Form → ℕ
-stateSize f = f.racks * rackSize
+abbrev pub state_size : Form → ℕ
+state_size f = f.racks * rack_size
 
 -- the widths of a record's fields: length, version, state, summary, authenticator
-abbrev pub recordWidths : Form → List ℕ
-recordWidths f = 2 ∷ 1 ∷ stateSize f ∷ hashSize ∷ hashSize ∷ []
+abbrev pub record_widths : Form → List ℕ
+record_widths f = 2 ∷ 1 ∷ state_size f ∷ hash_size ∷ hash_size ∷ []
 
 -- how many bytes a record takes
-abbrev pub recordSize : Form → ℕ
-recordSize f = size (recordWidths f)
+abbrev pub record_size : Form → ℕ
+record_size f = size (record_widths f)
 
 -- its length, which counts the bytes behind the two that hold it
 abbrev pub length_of : Form → ℕ
-length_of f = recordSize f - 2
+length_of f = record_size f - 2
 
 -- the fields of a record
 abbrev pub fields : Form → List ℕ → List (List ℕ)
-fields f l = cut_at 0 (recordWidths f) l
+fields f l = cut_at 0 (record_widths f) l
 
-abbrev pub lengthField : Form → List ℕ → List ℕ
-lengthField f l = get_or (fields f l) 0 []
+abbrev pub length_field : Form → List ℕ → List ℕ
+length_field f l = get_or (fields f l) 0 []
 
-abbrev pub versionField : Form → List ℕ → List ℕ
-versionField f l = get_or (fields f l) 1 []
+abbrev pub version_field : Form → List ℕ → List ℕ
+version_field f l = get_or (fields f l) 1 []
 
-abbrev pub stateBytes : Form → List ℕ → List ℕ
-stateBytes f l = get_or (fields f l) 2 []
+abbrev pub state_bytes : Form → List ℕ → List ℕ
+state_bytes f l = get_or (fields f l) 2 []
 
 abbrev pub summary : Form → List ℕ → List ℕ
 summary f l = get_or (fields f l) 3 []
@@ -46,28 +46,28 @@ authenticator f l = get_or (fields f l) 4 []
 
 -- the racks of a record
 abbrev pub state : Form → List ℕ → State
-state f l = state_of f.racks (stateBytes f l)
+state f l = state_of f.racks (state_bytes f l)
 
 -- the bytes of the first two fields: the length and the version
-abbrev pub headerFields : Form → List (List ℕ)
-headerFields f = fields_of (recordWidths f) (length_of f ∷ f.version ∷ [])
+abbrev pub header_fields : Form → List (List ℕ)
+header_fields f = fields_of (record_widths f) (length_of f ∷ f.version ∷ [])
 
 -- a record from its fields
-unfoldable pub recordOf : Form → List ℕ → List ℕ → List ℕ → List ℕ
-recordOf f stateBytes summary authenticator = join (headerFields f ++ stateBytes ∷ summary ∷ authenticator ∷ [])
+unfoldable pub record_of : Form → List ℕ → List ℕ → List ℕ → List ℕ
+record_of f state_bytes summary authenticator = join (header_fields f ++ state_bytes ∷ summary ∷ authenticator ∷ [])
 
 -- the first three bytes of a record: its length and its version
 unfoldable pub header : Form → List ℕ
-header f = join (headerFields f)
+header f = join (header_fields f)
 
 -- refusal 3 unless: the record is of its size, and its length field is right
-unfoldable pub rightSize : Form → List ℕ → Bool
-rightSize f l = eqb (length l) (recordSize f) && eqb (be (lengthField f l)) (length_of f)
+unfoldable pub right_size : Form → List ℕ → Bool
+right_size f l = eqb (length l) (record_size f) && eqb (be (length_field f l)) (length_of f)
 
 -- refusal 4 unless: the version is right
-unfoldable pub rightVersion : Form → List ℕ → Bool
-rightVersion f l = eqb (be (versionField f l)) f.version
+unfoldable pub right_version : Form → List ℕ → Bool
+right_version f l = eqb (be (version_field f l)) f.version
 
 -- refusal 5 unless: the state rule holds
-unfoldable pub rightState : Form → List ℕ → Bool
-rightState f l = goodState (state f l)
+unfoldable pub right_state : Form → List ℕ → Bool
+right_state f l = good_state (state f l)

@@ -5,13 +5,13 @@ use Rattle.refusals.specs.declared.Refusal.TheVariants.{Record, Version, State}
 use Rattle.records.specs.Form.{Form}
 use Rattle.records.specs.declared.Tested.{Tested}
 use Rattle.records.specs.declared.Tested.TheVariants.{Passed, Refused}
-use Rattle.records.specs.Record.{rightSize, rightVersion, rightState}
+use Rattle.records.specs.Record.{right_size, right_version, right_state}
 
 -- the first that applies is the answer
 unfoldable pub tested : Form → List ℕ → Tested
 tested f l =
-    cond (rightSize f l)
-    (cond (rightVersion f l)
-    (cond (rightState f l) Passed (Refused State))
+    cond (right_size f l)
+    (cond (right_version f l)
+    (cond (right_state f l) Passed (Refused State))
     (Refused Version))
     (Refused Record)

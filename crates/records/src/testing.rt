@@ -2,7 +2,7 @@
 // decides 4.
 ghost use Rattle.std.specs.Prelude.{◌≡◌, length};
 ghost use Rattle.records.specs.Form.{form_of};
-ghost use Rattle.records.specs.Record.{recordSize, rightSize, rightVersion, rightState};
+ghost use Rattle.records.specs.Record.{record_size, right_size, right_version, right_state};
 ghost use Rattle.records.specs.Tests.{tested};
 
 use crate::forms::header_of;
@@ -14,7 +14,7 @@ use refusals::Refusal;
 
 // Whether a record is of its size, and its length field the header's.
 fn right_size(record: &[u8], form: Form) -> bool
-    ensures { result ≡ rightSize (form_of form) «record».now }
+    ensures { result ≡ right_size (form_of form) «record».now }
 {
     if record.len() != record_size(form) {
         return false;
@@ -25,8 +25,8 @@ fn right_size(record: &[u8], form: Form) -> bool
 
 // Whether a record's version is the header's.
 fn right_version(record: &[u8], form: Form) -> bool
-    requires { length «record».now ≡ recordSize (form_of form) }
-    ensures { result ≡ rightVersion (form_of form) «record».now }
+    requires { length «record».now ≡ record_size (form_of form) }
+    ensures { result ≡ right_version (form_of form) «record».now }
 {
     let header = header_of(form);
     record[2] == header[2]
@@ -34,8 +34,8 @@ fn right_version(record: &[u8], form: Form) -> bool
 
 // Whether a record's state keeps the state rule, tested where it lies.
 fn right_state(record: &[u8], form: Form) -> bool
-    requires { length «record».now ≡ recordSize (form_of form) }
-    ensures { result ≡ rightState (form_of form) «record».now }
+    requires { length «record».now ≡ record_size (form_of form) }
+    ensures { result ≡ right_state (form_of form) «record».now }
 {
     good_state(state_part(record, form))
 }

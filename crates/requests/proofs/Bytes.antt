@@ -5,9 +5,9 @@ use native.Mathlib.Nat.{zero-add}
 use mathlib.Core.List.{List}
 use lib.ListN.{length, get_or}
 use lib.Seq.{drop-cons}
-use Rattle.numbers.specs.Numbers.{beFrom, be}
+use Rattle.numbers.specs.Numbers.{be_from, be}
 use Rattle.numbers.specs.Parts.{part}
 
 pub one_byte : (at : ℕ) (l : List ℕ) → at < length l → be (part at 1 l) ≡ get_or l at 0
-unfolding beFrom be part
+unfolding be_from be part
 one_byte at l inside = rw (drop-cons l at 0 inside) (zero-add (get_or l at 0))

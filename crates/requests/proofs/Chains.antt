@@ -20,7 +20,7 @@ never [] t = false≢true t
 never (b ∷ bs) t = never bs t
 
 -- a chain that passes
-pub each-passed : (a : Bool) (bs : List Bool) → chain a bs ≡ true → Each a bs
-each-passed a [] t = t
-each-passed true (b ∷ bs) t = (refl, each-passed b bs t)
-each-passed false (b ∷ bs) t = absurd (never bs t)
+pub each_passed : (a : Bool) (bs : List Bool) → chain a bs ≡ true → Each a bs
+each_passed a [] t = t
+each_passed true (b ∷ bs) t = (refl, each_passed b bs t)
+each_passed false (b ∷ bs) t = absurd (never bs t)

@@ -8,37 +8,37 @@ use mathlib.Core.List.{List, [], ◌∷◌}
 use lib.ListN.{length}
 use lib.Dec.{leb, ltb, eqb}
 use borrow.Author.Tests.{eqb-true, eqb-false, not-true, leb-true, ltb-true, lt-ltb, eq-eqb, ne_eqb}
-use Rattle.racks.specs.Rule.{amountLimit}
+use Rattle.racks.specs.Rule.{amount_limit}
 use Rattle.requests.specs.declared.Request.{Request}
 use Rattle.requests.specs.declared.Reading.TheVariants.{Formed, Malformed}
-use Rattle.requests.specs.Layout.{requestSize, lengthField, version, kind, rack, other, amount}
-use Rattle.requests.specs.Formed.{rightForm, rightOther, rightAmount, wellFormed}
-use Rattle.requests.specs.Requests.{requestBy, requestOf, readRequest}
+use Rattle.requests.specs.Layout.{request_size, length_field, version, kind, rack, other, amount}
+use Rattle.requests.specs.Formed.{right_form, right_other, right_amount, well_formed}
+use Rattle.requests.specs.Requests.{request_by, request_of, read_request}
 use Rattle.requests.specs.Range.{InRange}
-use Rattle.requests.proofs.Chains.{each-passed}
-use Rattle.requests.proofs.Tests.{form-is}
+use Rattle.requests.proofs.Chains.{each_passed}
+use Rattle.requests.proofs.Tests.{form_is}
 
 -- a form that is right
 pub record RightForm (l : List ℕ) : Type 0 where
-  pub size : length l ≡ requestSize
-  pub count : lengthField l ≡ requestSize - 2
+  pub size : length l ≡ request_size
+  pub count : length_field l ≡ request_size - 2
   pub first : version l ≡ 1
 
-pub right-form : (l : List ℕ) → rightForm l ≡ true → RightForm l
-unfolding rightForm
-right-form l right =
-    let t = each-passed (eqb (length l) requestSize) (eqb (lengthField l) (requestSize - 2) ∷ eqb (version l) 1 ∷ []) right in
+pub right_form_lem : (l : List ℕ) → right_form l ≡ true → RightForm l
+unfolding right_form
+right_form_lem l right =
+    let t = each_passed (eqb (length l) request_size) (eqb (length_field l) (request_size - 2) ∷ eqb (version l) 1 ∷ []) right in
     record { size = eqb-true _ _ t.0; count = eqb-true _ _ t.1.0; first = eqb-true _ _ t.1.1 }
 
-pub form-right : (l : List ℕ) → RightForm l → rightForm l ≡ true
-form-right l r = form-is l (sym r.count) (sym r.first) (eq-eqb _ _ r.size) refl refl
+pub form_right : (l : List ℕ) → RightForm l → right_form l ≡ true
+form_right l r = form_is l (sym r.count) (sym r.first) (eq-eqb _ _ r.size) refl refl
 
 -- what is well formed has the right form
-pub formed-form : (n : ℕ) (l : List ℕ) → wellFormed n l ≡ true → RightForm l
-unfolding wellFormed
-formed-form n l well =
-    right-form l
-    (each-passed (rightForm l) (leb 1 (kind l) ∷ leb (kind l) 4 ∷ ltb (rack l) n ∷ rightOther n l ∷ rightAmount l ∷ []) well).0
+pub formed_form : (n : ℕ) (l : List ℕ) → well_formed n l ≡ true → RightForm l
+unfolding well_formed
+formed_form n l well =
+    right_form_lem l
+    (each_passed (right_form l) (leb 1 (kind l) ∷ leb (kind l) 4 ∷ ltb (rack l) n ∷ right_other n l ∷ right_amount l ∷ []) well).0
 
 -- the clauses that kind k, rack i, other o and amount a have to meet
 pub record Fields (n k i o a : ℕ) : Type 0 where
@@ -46,12 +46,12 @@ pub record Fields (n k i o a : ℕ) : Type 0 where
   pub high : k ≤ 4
   pub inside : i < n
   pub another : (leb k 3 && eqb o 0 || eqb k 4 && ltb o n && not (eqb o i)) ≡ true
-  pub within : a ≤ amountLimit
+  pub within : a ≤ amount_limit
   pub some : (eqb k 1 || ltb 0 a) ≡ true
 
 -- what fields that meet them ask is in range
-ranged : (n k i o a : ℕ) → Fields n k i o a → InRange n (requestBy k i o a)
-unfolding requestBy
+ranged : (n k i o a : ℕ) → Fields n k i o a → InRange n (request_by k i o a)
+unfolding request_by
 ranged n zero i o a f = absurd (omega arith)
 ranged n (suc zero) i o a f =
     record { named = record { rack = f.inside; other = f.inside }; apart = λ e. absurd (false≢true e); within = f.within; some = λ e. absurd (true≢false e) }
@@ -60,13 +60,13 @@ ranged n (suc (suc zero)) i o a f =
 ranged n (suc (suc (suc zero))) i o a f =
     record { named = record { rack = f.inside; other = f.inside }; apart = λ e. absurd (false≢true e); within = f.within; some = λ e. ltb-true 0 a f.some }
 ranged n (suc (suc (suc (suc zero)))) i o a f =
-    let t = each-passed (ltb o n) (not (eqb o i) ∷ []) f.another in
+    let t = each_passed (ltb o n) (not (eqb o i) ∷ []) f.another in
     record { named = record { rack = f.inside; other = ltb-true o n t.0 }; apart = λ e. eqb-false o i (not-true _ t.1); within = f.within; some = λ e. ltb-true 0 a f.some }
 ranged n (suc (suc (suc (suc (suc k))))) i o a f = absurd (omega arith)
 
 -- and what is in range comes from such fields
-pub fields : (n k i o a : ℕ) → 1 ≤ k → k ≤ 4 → (k ≤ 3 → o ≡ 0) → InRange n (requestBy k i o a) → Fields n k i o a
-unfolding requestBy
+pub fields : (n k i o a : ℕ) → 1 ≤ k → k ≤ 4 → (k ≤ 3 → o ≡ 0) → InRange n (request_by k i o a) → Fields n k i o a
+unfolding request_by
 fields n zero i o a low high none r = absurd (omega arith)
 fields n (suc zero) i o a low high none r =
     record { low = low; high = high; inside = r.named.rack; another = rw (none (omega arith)); within = r.within; some = refl }
@@ -83,16 +83,16 @@ picked : (b : Bool) (p q : Request) → cond b (Formed p) Malformed ≡ Formed q
 picked true p q e = (refl, cc)
 picked false p q e = let z : ◌≡◌ {A = ℕ} 0 1 = cc in absurd (omega arith)
 
-pub read-formed : (n : ℕ) (l : List ℕ) (q : Request) → readRequest n l ≡ Formed q → (wellFormed n l ≡ true) × (requestOf l ≡ q)
-unfolding readRequest
-read-formed n l q read = picked (wellFormed n l) (requestOf l) q read
+pub read_formed : (n : ℕ) (l : List ℕ) (q : Request) → read_request n l ≡ Formed q → (well_formed n l ≡ true) × (request_of l ≡ q)
+unfolding read_request
+read_formed n l q read = picked (well_formed n l) (request_of l) q read
 
 -- what is well formed is in range
-formed-range : (n : ℕ) (l : List ℕ) → wellFormed n l ≡ true → InRange n (requestOf l)
-unfolding wellFormed rightOther rightAmount requestOf
+formed-range : (n : ℕ) (l : List ℕ) → well_formed n l ≡ true → InRange n (request_of l)
+unfolding well_formed right_other right_amount request_of
 formed-range n l well =
-    let t = each-passed (rightForm l) (leb 1 (kind l) ∷ leb (kind l) 4 ∷ ltb (rack l) n ∷ rightOther n l ∷ rightAmount l ∷ []) well in
-    let u = each-passed (leb (amount l) amountLimit) ((eqb (kind l) 1 || ltb 0 (amount l)) ∷ []) t.1.1.1.1.1 in
+    let t = each_passed (right_form l) (leb 1 (kind l) ∷ leb (kind l) 4 ∷ ltb (rack l) n ∷ right_other n l ∷ right_amount l ∷ []) well in
+    let u = each_passed (leb (amount l) amount_limit) ((eqb (kind l) 1 || ltb 0 (amount l)) ∷ []) t.1.1.1.1.1 in
     ranged n (kind l) (rack l) (other l) (amount l)
     record {
       low = leb-true _ _ t.1.0;
@@ -104,7 +104,7 @@ formed-range n l well =
     }
 
 -- what was read is in range
-pub in-range : (n : ℕ) (l : List ℕ) (q : Request) → readRequest n l ≡ Formed q → InRange n q
-in-range n l q read =
-    let r = read-formed n l q read in
+pub in_range : (n : ℕ) (l : List ℕ) (q : Request) → read_request n l ≡ Formed q → InRange n q
+in_range n l q read =
+    let r = read_formed n l q read in
     rw r.1 at (formed-range n l r.0)

@@ -8,65 +8,65 @@ use lib.ListN.{length, get_or}
 use borrow.Author.Tests.{le-leb, lt-ltb}
 use Rattle.numbers.specs.Numbers.{be, bytes_of, Bytes}
 use Rattle.numbers.specs.Parts.{size, cut_at, fields_of, join}
-use Rattle.numbers.proofs.Numbers.{be-bytesOf}
-use Rattle.numbers.proofs.Layouts.{length-join, join-cutAt, cutAt-join}
-use Rattle.numbers.proofs.Forms.{part-whole, widths-fieldsOf, fieldsOf-cutAt, bytes-fieldsOf, bytes-join}
-use Rattle.racks.specs.Rule.{amountLimit}
+use Rattle.numbers.proofs.Numbers.{be-bytes_of}
+use Rattle.numbers.proofs.Layouts.{length-join, join-cut_at, cut_at-join}
+use Rattle.numbers.proofs.Forms.{part-whole, widths_fields_of, fields_of-cut_at, bytes-fields_of, bytes-join}
+use Rattle.racks.specs.Rule.{amount_limit}
 use Rattle.requests.specs.declared.Reading.TheVariants.{Formed}
-use Rattle.requests.specs.Layout.{requestWidths, requestSize, kind, rack, other, amount, numbersOfRequest, fieldsOfRequest, bytesOfRequest}
-use Rattle.requests.specs.Formed.{rightOther, rightAmount, wellFormed}
-use Rattle.requests.specs.Requests.{requestBy, requestOf, readRequest}
+use Rattle.requests.specs.Layout.{request_widths, request_size, kind, rack, other, amount, numbers_of_request, fields_of_request, bytes_of_request}
+use Rattle.requests.specs.Formed.{right_other, right_amount, well_formed}
+use Rattle.requests.specs.Requests.{request_by, request_of, read_request}
 use Rattle.requests.specs.Range.{InRange}
-use Rattle.requests.proofs.Formed.{RightForm, form-right, fields}
+use Rattle.requests.proofs.Formed.{RightForm, form_right, fields}
 
 -- kind k, rack i, other o and amount a are written, and each is found again
 module _ (k i o a : ℕ) where
-  widths : map length (fieldsOfRequest k i o a) ≡ requestWidths
-  widths = widths-fieldsOf requestWidths (numbersOfRequest k i o a) refl
+  widths : map length (fields_of_request k i o a) ≡ request_widths
+  widths = widths_fields_of request_widths (numbers_of_request k i o a) refl
 
-  pub length-written : length (bytesOfRequest k i o a) ≡ requestSize
-  unfolding bytesOfRequest
-  length-written = length-join (fieldsOfRequest k i o a) ∙ ap size widths
+  pub length-written : length (bytes_of_request k i o a) ≡ request_size
+  unfolding bytes_of_request
+  length-written = length-join (fields_of_request k i o a) ∙ ap size widths
 
-  pub bytes-written : Bytes (bytesOfRequest k i o a)
-  unfolding bytesOfRequest
-  bytes-written = bytes-join (fieldsOfRequest k i o a) (bytes-fieldsOf requestWidths (numbersOfRequest k i o a))
+  pub bytes-written : Bytes (bytes_of_request k i o a)
+  unfolding bytes_of_request
+  bytes-written = bytes-join (fields_of_request k i o a) (bytes-fields_of request_widths (numbers_of_request k i o a))
 
-  cut : cut_at 0 requestWidths (bytesOfRequest k i o a) ≡ fieldsOfRequest k i o a
-  unfolding bytesOfRequest
-  cut = cutAt-join 0 requestWidths (bytesOfRequest k i o a) (fieldsOfRequest k i o a) widths (part-whole requestSize (bytesOfRequest k i o a) length-written)
+  cut : cut_at 0 request_widths (bytes_of_request k i o a) ≡ fields_of_request k i o a
+  unfolding bytes_of_request
+  cut = cut_at-join 0 request_widths (bytes_of_request k i o a) (fields_of_request k i o a) widths (part-whole request_size (bytes_of_request k i o a) length-written)
 
   -- field number j, of width w and written as x
-  found : (j w x : ℕ) → get_or (fieldsOfRequest k i o a) j [] ≡ bytes_of w x → x < 256 ^ w → be (get_or (cut_at 0 requestWidths (bytesOfRequest k i o a)) j []) ≡ x
-  found j w x field fits = ap (λ (ps : List (List ℕ)). be (get_or ps j [])) cut ∙ ap be field ∙ be-bytesOf w x fits
+  found : (j w x : ℕ) → get_or (fields_of_request k i o a) j [] ≡ bytes_of w x → x < 256 ^ w → be (get_or (cut_at 0 request_widths (bytes_of_request k i o a)) j []) ≡ x
+  found j w x field fits = ap (λ (ps : List (List ℕ)). be (get_or ps j [])) cut ∙ ap be field ∙ be-bytes_of w x fits
 
-  pub written-form : RightForm (bytesOfRequest k i o a)
-  written-form = record { size = length-written; count = found 0 2 (requestSize - 2) refl (omega arith); first = found 1 1 1 refl (omega arith) }
+  pub written_form : RightForm (bytes_of_request k i o a)
+  written_form = record { size = length-written; count = found 0 2 (request_size - 2) refl (omega arith); first = found 1 1 1 refl (omega arith) }
 
-  pub written-kind : k < 256 → kind (bytesOfRequest k i o a) ≡ k
+  pub written-kind : k < 256 → kind (bytes_of_request k i o a) ≡ k
   written-kind fits = found 2 1 k refl fits
 
-  pub written-rack : i < 256 → rack (bytesOfRequest k i o a) ≡ i
+  pub written-rack : i < 256 → rack (bytes_of_request k i o a) ≡ i
   written-rack fits = found 3 1 i refl fits
 
-  pub written-other : o < 256 → other (bytesOfRequest k i o a) ≡ o
+  pub written-other : o < 256 → other (bytes_of_request k i o a) ≡ o
   written-other fits = found 4 1 o refl fits
 
-  pub written-amount : a < 2 ^ 32 → amount (bytesOfRequest k i o a) ≡ a
+  pub written-amount : a < 2 ^ 32 → amount (bytes_of_request k i o a) ≡ a
   written-amount fits = found 5 4 a refl fits
 
 -- writing the fields of a right form gives its bytes again
-pub rewritten-request : (l : List ℕ) → Bytes l → RightForm l → bytesOfRequest (kind l) (rack l) (other l) (amount l) ≡ l
-unfolding bytesOfRequest
-rewritten-request l bytes right =
-    let fields : fieldsOfRequest (kind l) (rack l) (other l) (amount l) ≡ fields_of requestWidths (map be (cut_at 0 requestWidths l)) = cc in
-    ap join (fields ∙ fieldsOf-cutAt 0 requestWidths l bytes (omega arith)) ∙ join-cutAt 0 requestWidths l ∙ part-whole requestSize l right.size
+pub rewritten_request : (l : List ℕ) → Bytes l → RightForm l → bytes_of_request (kind l) (rack l) (other l) (amount l) ≡ l
+unfolding bytes_of_request
+rewritten_request l bytes right =
+    let fields : fields_of_request (kind l) (rack l) (other l) (amount l) ≡ fields_of request_widths (map be (cut_at 0 request_widths l)) = cc in
+    ap join (fields ∙ fields_of-cut_at 0 request_widths l bytes (omega arith)) ∙ join-cut_at 0 request_widths l ∙ part-whole request_size l right.size
 
 -- what is written of a request in range is read back
-pub read_back : (n k i o a : ℕ) → i < 256 → o < 256 → 1 ≤ k → k ≤ 4 → (k ≤ 3 → o ≡ 0) → InRange n (requestBy k i o a)
-    → readRequest n (bytesOfRequest k i o a) ≡ Formed (requestBy k i o a)
-unfolding readRequest requestOf rightOther rightAmount wellFormed
-read_back n k i o a rackFits otherFits low high none range =
+pub read_back : (n k i o a : ℕ) → i < 256 → o < 256 → 1 ≤ k → k ≤ 4 → (k ≤ 3 → o ≡ 0) → InRange n (request_by k i o a)
+    → read_request n (bytes_of_request k i o a) ≡ Formed (request_by k i o a)
+unfolding read_request request_of right_other right_amount well_formed
+read_back n k i o a rack_fits other_fits low high none range =
     let f = fields n k i o a low high none range in
-    rw (written-kind k i o a (omega arith), written-rack k i o a rackFits, written-other k i o a otherFits, written-amount k i o a (omega arith))
-    (rw (form-right (bytesOfRequest k i o a) (written-form k i o a), le-leb 1 k low, le-leb k 4 high, lt-ltb i n f.inside, f.another, le-leb a amountLimit f.within, f.some))
+    rw (written-kind k i o a (omega arith), written-rack k i o a rack_fits, written-other k i o a other_fits, written-amount k i o a (omega arith))
+    (rw (form_right (bytes_of_request k i o a) (written_form k i o a), le-leb 1 k low, le-leb k 4 high, lt-ltb i n f.inside, f.another, le-leb a amount_limit f.within, f.some))

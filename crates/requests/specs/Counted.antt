@@ -7,11 +7,11 @@ use Rattle.requests.specs.declared.Request.TheVariants.{Capacity, Charge, Discha
 use Rattle.requests.specs.Requests.{charged, discharged}
 
 -- one of each kind, in their order
-abbrev pub ofEachKind : ℕ → ℕ → ℕ → List Request
-ofEachKind i o a = Capacity i a ∷ Charge i a ∷ Discharge i a ∷ Move i o a ∷ []
+abbrev pub of_each_kind : ℕ → ℕ → ℕ → List Request
+of_each_kind i o a = Capacity i a ∷ Charge i a ∷ Discharge i a ∷ Move i o a ∷ []
 
-pub charged-of-each : (i o a : ℕ) → map charged (ofEachKind i o a) ≡ 0 ∷ a ∷ 0 ∷ 0 ∷ []
-charged-of-each i o a = refl
+pub charged_of_each : (i o a : ℕ) → map charged (of_each_kind i o a) ≡ 0 ∷ a ∷ 0 ∷ 0 ∷ []
+charged_of_each i o a = refl
 
-pub discharged-of-each : (i o a : ℕ) → map discharged (ofEachKind i o a) ≡ 0 ∷ 0 ∷ a ∷ 0 ∷ []
-discharged-of-each i o a = refl
+pub discharged_of_each : (i o a : ℕ) → map discharged (of_each_kind i o a) ≡ 0 ∷ 0 ∷ a ∷ 0 ∷ []
+discharged_of_each i o a = refl

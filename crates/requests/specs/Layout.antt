@@ -5,19 +5,19 @@ use Rattle.numbers.specs.Numbers.{be}
 use Rattle.numbers.specs.Parts.{size, cut_at, fields_of, join}
 
 -- the widths of the fields, in their order: length, version, kind, rack, other, amount
-abbrev pub requestWidths : List ℕ
-requestWidths = 2 ∷ 1 ∷ 1 ∷ 1 ∷ 1 ∷ 4 ∷ []
+abbrev pub request_widths : List ℕ
+request_widths = 2 ∷ 1 ∷ 1 ∷ 1 ∷ 1 ∷ 4 ∷ []
 
 -- how many bytes a request takes
-abbrev pub requestSize : ℕ
-requestSize = size requestWidths
+abbrev pub request_size : ℕ
+request_size = size request_widths
 
 -- field number i of a request's bytes
 abbrev pub field : ℕ → List ℕ → ℕ
-field i l = be (get_or (cut_at 0 requestWidths l) i [])
+field i l = be (get_or (cut_at 0 request_widths l) i [])
 
-abbrev pub lengthField : List ℕ → ℕ
-lengthField l = field 0 l
+abbrev pub length_field : List ℕ → ℕ
+length_field l = field 0 l
 
 abbrev pub version : List ℕ → ℕ
 version l = field 1 l
@@ -35,12 +35,12 @@ abbrev pub amount : List ℕ → ℕ
 amount l = field 5 l
 
 -- the numbers of a request of version 1, in the order of its fields: kind k, rack i, other o and amount a; and the bytes of these fields
-abbrev pub numbersOfRequest : ℕ → ℕ → ℕ → ℕ → List ℕ
-numbersOfRequest k i o a = (requestSize - 2) ∷ 1 ∷ k ∷ i ∷ o ∷ a ∷ []
+abbrev pub numbers_of_request : ℕ → ℕ → ℕ → ℕ → List ℕ
+numbers_of_request k i o a = (request_size - 2) ∷ 1 ∷ k ∷ i ∷ o ∷ a ∷ []
 
-abbrev pub fieldsOfRequest : ℕ → ℕ → ℕ → ℕ → List (List ℕ)
-fieldsOfRequest k i o a = fields_of requestWidths (numbersOfRequest k i o a)
+abbrev pub fields_of_request : ℕ → ℕ → ℕ → ℕ → List (List ℕ)
+fields_of_request k i o a = fields_of request_widths (numbers_of_request k i o a)
 
 -- the bytes of such a request
-unfoldable pub bytesOfRequest : ℕ → ℕ → ℕ → ℕ → List ℕ
-bytesOfRequest k i o a = join (fieldsOfRequest k i o a)
+unfoldable pub bytes_of_request : ℕ → ℕ → ℕ → ℕ → List ℕ
+bytes_of_request k i o a = join (fields_of_request k i o a)

@@ -5,51 +5,51 @@ use Rattle.requests.specs.declared.Request.TheVariants.{Capacity, Charge, Discha
 use Rattle.requests.specs.declared.Reading.{Reading}
 use Rattle.requests.specs.declared.Reading.TheVariants.{Formed, Malformed}
 use Rattle.requests.specs.Layout.{kind, rack, other, amount}
-use Rattle.requests.specs.Formed.{wellFormed}
+use Rattle.requests.specs.Formed.{well_formed}
 
 -- what kind k, rack i, other o and amount a ask: kinds 1, 2, 3 and 4, in their order
-unfoldable pub requestBy : ℕ → ℕ → ℕ → ℕ → Request
-requestBy k i o a =
+unfoldable pub request_by : ℕ → ℕ → ℕ → ℕ → Request
+request_by k i o a =
     cond (eqb k 1) (Capacity i a)
     (cond (eqb k 2) (Charge i a)
     (cond (eqb k 3) (Discharge i a)
     (Move i o a)))
 
 -- what the fields of bytes ask
-unfoldable pub requestOf : List ℕ → Request
-requestOf l = requestBy (kind l) (rack l) (other l) (amount l)
+unfoldable pub request_of : List ℕ → Request
+request_of l = request_by (kind l) (rack l) (other l) (amount l)
 
 -- the request that bytes stand for, among n racks
-unfoldable pub readRequest : ℕ → List ℕ → Reading
-readRequest n l = cond (wellFormed n l) (Formed (requestOf l)) Malformed
+unfoldable pub read_request : ℕ → List ℕ → Reading
+read_request n l = cond (well_formed n l) (Formed (request_of l)) Malformed
 
 -- the rack that a request names first
-abbrev pub rackOfRequest : Request → ℕ
-rackOfRequest (Capacity i a) = i
-rackOfRequest (Charge i a) = i
-rackOfRequest (Discharge i a) = i
-rackOfRequest (Move i o a) = i
+abbrev pub rack_of_request : Request → ℕ
+rack_of_request (Capacity i a) = i
+rack_of_request (Charge i a) = i
+rack_of_request (Discharge i a) = i
+rack_of_request (Move i o a) = i
 
 -- the other rack that it names: for a move the one that receives, else the same rack again
-abbrev pub otherOfRequest : Request → ℕ
-otherOfRequest (Capacity i a) = i
-otherOfRequest (Charge i a) = i
-otherOfRequest (Discharge i a) = i
-otherOfRequest (Move i o a) = o
+abbrev pub other_of_request : Request → ℕ
+other_of_request (Capacity i a) = i
+other_of_request (Charge i a) = i
+other_of_request (Discharge i a) = i
+other_of_request (Move i o a) = o
 
 -- the amount that it names
-abbrev pub amountOfRequest : Request → ℕ
-amountOfRequest (Capacity i a) = a
-amountOfRequest (Charge i a) = a
-amountOfRequest (Discharge i a) = a
-amountOfRequest (Move i o a) = a
+abbrev pub amount_of_request : Request → ℕ
+amount_of_request (Capacity i a) = a
+amount_of_request (Charge i a) = a
+amount_of_request (Discharge i a) = a
+amount_of_request (Move i o a) = a
 
 -- whether it sets a capacity: kind 1
-abbrev pub setsCapacity : Request → Bool
-setsCapacity (Capacity i a) = true
-setsCapacity (Charge i a) = false
-setsCapacity (Discharge i a) = false
-setsCapacity (Move i o a) = false
+abbrev pub sets_capacity : Request → Bool
+sets_capacity (Capacity i a) = true
+sets_capacity (Charge i a) = false
+sets_capacity (Discharge i a) = false
+sets_capacity (Move i o a) = false
 
 -- whether it moves charge from one rack to another: kind 4
 abbrev pub moves : Request → Bool

@@ -2,8 +2,8 @@
 ghost use Rattle.std.specs.Prelude.{◌≡◌, ◌<◌, length};
 ghost use Rattle.numbers.specs.Numbers.{be};
 ghost use Rattle.numbers.specs.Parts.{part};
-ghost use Rattle.requests.specs.Layout.{requestSize};
-ghost use Rattle.requests.specs.Formed.{rightForm, rightOther, rightAmount, wellFormed};
+ghost use Rattle.requests.specs.Layout.{request_size};
+ghost use Rattle.requests.specs.Formed.{right_form, right_other, right_amount, well_formed};
 
 use racks::AMOUNT_LIMIT;
 
@@ -14,7 +14,7 @@ const LENGTH: u16 = 8;
 
 // Whether the bytes of s are a request, among so many racks.
 pub(crate) fn well_formed(s: &[u8], racks: usize) -> bool
-    ensures { result ≡ wellFormed racks s.now }
+    ensures { result ≡ well_formed racks s.now }
 {
     if !right_form(s) {
         return false;
@@ -38,7 +38,7 @@ pub(crate) fn well_formed(s: &[u8], racks: usize) -> bool
 
 // Length, version and size.
 fn right_form(s: &[u8]) -> bool
-    ensures { result ≡ rightForm s.now }
+    ensures { result ≡ right_form s.now }
 {
     if s.len() != SIZE {
         return false;
@@ -51,8 +51,8 @@ fn right_form(s: &[u8]) -> bool
 
 // Other is 0, and for kind 4 another rack.
 fn right_other(s: &[u8], racks: usize) -> bool
-    requires { length s.now ≡ requestSize }
-    ensures { result ≡ rightOther racks s.now }
+    requires { length s.now ≡ request_size }
+    ensures { result ≡ right_other racks s.now }
 {
     let kind = byte(s, 3);
     let rack = byte(s, 4);
@@ -71,8 +71,8 @@ fn right_other(s: &[u8], racks: usize) -> bool
 
 // Amount is within its limit, and 0 only for kind 1.
 fn right_amount(s: &[u8]) -> bool
-    requires { length s.now ≡ requestSize }
-    ensures { result ≡ rightAmount s.now }
+    requires { length s.now ≡ request_size }
+    ensures { result ≡ right_amount s.now }
 {
     let kind = byte(s, 3);
     let amount = numbers::read32(s, 6);

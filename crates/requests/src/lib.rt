@@ -3,8 +3,8 @@
 mod form;
 
 ghost use Rattle.std.specs.Prelude.{◌≡◌, length};
-ghost use Rattle.requests.specs.Layout.{requestSize};
-ghost use Rattle.requests.specs.Requests.{requestOf, readRequest};
+ghost use Rattle.requests.specs.Layout.{request_size};
+ghost use Rattle.requests.specs.Requests.{request_of, read_request};
 
 use form::{byte, well_formed};
 
@@ -39,7 +39,7 @@ pub enum Reading {
 
 // The request that the bytes of s stand for, among so many racks.
 pub fn read_request(s: &[u8], racks: usize) -> Reading
-    ensures { result ≡ readRequest racks s.now }
+    ensures { result ≡ read_request racks s.now }
 {
     if well_formed(s, racks) {
         Reading::Formed(request_of(s))
@@ -50,8 +50,8 @@ pub fn read_request(s: &[u8], racks: usize) -> Reading
 
 // The request in the fields of s, by its kind.
 fn request_of(s: &[u8]) -> Request
-    requires { length s.now ≡ requestSize }
-    ensures { result ≡ requestOf s.now }
+    requires { length s.now ≡ request_size }
+    ensures { result ≡ request_of s.now }
 {
     let kind = byte(s, 3);
     let rack = byte(s, 4);

@@ -5,13 +5,13 @@ use mathlib.Core.Bool.{Bool, true, false, ◌||◌, true≢false, cond}
 use Prim.Native.Nat.{ℕ, ◌≤◌}
 use native.Mathlib.Omega.{arith}
 use borrow.Author.Tests.{ltb-false}
-use Rattle.racks.specs.Racks.{State, rackAt}
+use Rattle.racks.specs.Racks.{State, rack_at}
 use Rattle.refusals.specs.declared.Refusal.TheVariants.{Capacity as CapacityRefusal, Stored, Limit}
 use Rattle.requests.specs.declared.Request.{Request}
 use Rattle.requests.specs.declared.Request.TheVariants.{Capacity, Charge, Discharge, Move}
 use Rattle.requests.specs.Requests.{arrives}
 use Rattle.rules.specs.declared.Ruling.TheVariants.{Free, Barred}
-use Rattle.rules.specs.Rules.{overCapacity, overStored, overLimit, ruling}
+use Rattle.rules.specs.Rules.{over_capacity, over_stored, over_limit, ruling}
 use Rattle.rules.specs.Ready.{TakesIn, GivesOut}
 
 -- of two tests neither applies
@@ -27,33 +27,33 @@ chosen false true c e = let z : ◌≡◌ {A = ℕ} 0 1 = cc in absurd (omega ar
 chosen false false true e = let z : ◌≡◌ {A = ℕ} 0 1 = cc in absurd (omega arith)
 chosen false false false e = (refl, refl, refl)
 
-pub clear : (s : State) (q : Request) → ruling s q ≡ Free → (overCapacity s q ≡ false) × (overStored s q ≡ false) × (overLimit s q ≡ false)
+pub clear : (s : State) (q : Request) → ruling s q ≡ Free → (over_capacity s q ≡ false) × (over_stored s q ≡ false) × (over_limit s q ≡ false)
 unfolding ruling
-clear s q free = chosen (overCapacity s q) (overStored s q) (overLimit s q) free
+clear s q free = chosen (over_capacity s q) (over_stored s q) (over_limit s q) free
 
 -- a capacity that is set is not under what is stored
-pub free-capacity : (s : State) (i a : ℕ) → ruling s (Capacity i a) ≡ Free → (rackAt s i).stored ≤ a
-unfolding overCapacity
-free-capacity s i a free = ltb-false a (rackAt s i).stored (clear s (Capacity i a) free).0
+pub free-capacity : (s : State) (i a : ℕ) → ruling s (Capacity i a) ≡ Free → (rack_at s i).stored ≤ a
+unfolding over_capacity
+free-capacity s i a free = ltb-false a (rack_at s i).stored (clear s (Capacity i a) free).0
 
 -- a rack that is charged can take it in
-pub free-charge : (s : State) (i a : ℕ) → ruling s (Charge i a) ≡ Free → TakesIn (arrives (Charge i a)) (rackAt s i)
-unfolding overCapacity overLimit
-free-charge s i a free =
+pub free_charge : (s : State) (i a : ℕ) → ruling s (Charge i a) ≡ Free → TakesIn (arrives (Charge i a)) (rack_at s i)
+unfolding over_capacity over_limit
+free_charge s i a free =
     let t = clear s (Charge i a) free in
     record { room = ltb-false _ _ t.0; flow = ltb-false _ _ t.2 }
 
 -- a rack that is discharged can give it out
-pub free-discharge : (s : State) (i a : ℕ) → ruling s (Discharge i a) ≡ Free → GivesOut a (rackAt s i)
-unfolding overStored overLimit
-free-discharge s i a free =
+pub free_discharge : (s : State) (i a : ℕ) → ruling s (Discharge i a) ≡ Free → GivesOut a (rack_at s i)
+unfolding over_stored over_limit
+free_discharge s i a free =
     let t = clear s (Discharge i a) free in
-    record { held = ltb-false (rackAt s i).stored a t.1; flow = ltb-false _ _ t.2 }
+    record { held = ltb-false (rack_at s i).stored a t.1; flow = ltb-false _ _ t.2 }
 
 -- of a move's racks the one can give it out and the other take it in
-pub free_move : (s : State) (i o a : ℕ) → ruling s (Move i o a) ≡ Free → GivesOut a (rackAt s i) × TakesIn (arrives (Move i o a)) (rackAt s o)
-unfolding overCapacity overStored overLimit
+pub free_move : (s : State) (i o a : ℕ) → ruling s (Move i o a) ≡ Free → GivesOut a (rack_at s i) × TakesIn (arrives (Move i o a)) (rack_at s o)
+unfolding over_capacity over_stored over_limit
 free_move s i o a free =
     let t = clear s (Move i o a) free in
     let flows = neither _ _ t.2 in
-    (record { held = ltb-false (rackAt s i).stored a t.1; flow = ltb-false _ _ flows.1 }, record { room = ltb-false _ _ t.0; flow = ltb-false _ _ flows.0 })
+    (record { held = ltb-false (rack_at s i).stored a t.1; flow = ltb-false _ _ flows.1 }, record { room = ltb-false _ _ t.0; flow = ltb-false _ _ flows.0 })

@@ -10,30 +10,30 @@ use mathlib.Core.List.{[], ◌∷◌}
 use lib.Dec.{ltb}
 use borrow.Author.Tests.{lt-ltb, le-ltb}
 use Rattle.racks.specs.declared.Rack.{Rack}
-use Rattle.racks.specs.Racks.{State, rackAt}
-use Rattle.racks.specs.Rule.{flowLimit}
+use Rattle.racks.specs.Racks.{State, rack_at}
+use Rattle.racks.specs.Rule.{flow_limit}
 use Rattle.refusals.specs.declared.Refusal.TheVariants.{Capacity as CapacityRefusal, Stored, Limit}
 use Rattle.requests.specs.declared.Request.{Request}
 use Rattle.requests.specs.declared.Request.TheVariants.{Capacity, Charge, Discharge, Move}
 use Rattle.requests.specs.Requests.{arrives}
 use Rattle.rules.specs.declared.Ruling.TheVariants.{Free, Barred}
-use Rattle.rules.specs.Rules.{overCapacity, overStored, overLimit, ruling}
+use Rattle.rules.specs.Rules.{over_capacity, over_stored, over_limit, ruling}
 
 -- 9, 10 and 11
-pub ruling-is : (s : State) (q : Request) {a b c : Bool} → overCapacity s q ≡ a → overStored s q ≡ b → overLimit s q ≡ c
+pub ruling_is : (s : State) (q : Request) {a b c : Bool} → over_capacity s q ≡ a → over_stored s q ≡ b → over_limit s q ≡ c
     → cond a (Barred CapacityRefusal) (cond b (Barred Stored) (cond c (Barred Limit) Free)) ≡ ruling s q
 unfolding ruling
-ruling-is s q p r t = rw (p, r, t)
+ruling_is s q p r t = rw (p, r, t)
 
 -- 11 of a move: the rack that takes in, and the one that gives out
-pub limit_is : (s : State) (i o a : ℕ) {b c : Bool} → ltb flowLimit ((rackAt s o).taken + arrives (Move i o a)) ≡ b → ltb flowLimit ((rackAt s i).given + a) ≡ c
-    → overLimit s (Move i o a) ≡ (b || c)
-unfolding overLimit
+pub limit_is : (s : State) (i o a : ℕ) {b c : Bool} → ltb flow_limit ((rack_at s o).taken + arrives (Move i o a)) ≡ b → ltb flow_limit ((rack_at s i).given + a) ≡ c
+    → over_limit s (Move i o a) ≡ (b || c)
+unfolding over_limit
 limit_is s i o a p q = rw (p, q)
 
 -- a figure m that rises by k passes n where n less k is below m
-pub rise-test : (n m k : ℕ) → k ≤ n → ltb (n - k) m ≡ ltb n (m + k)
-rise-test n m k fits = by (dec_le m (n - k))
+pub rise_test : (n m k : ℕ) → k ≤ n → ltb (n - k) m ≡ ltb n (m + k)
+rise_test n m k fits = by (dec_le m (n - k))
   where
     by : Dec (m ≤ n - k) → ltb (n - k) m ≡ ltb n (m + k)
     by (yes under) = le-ltb (n - k) m under ∙ sym (le-ltb n (m + k) (omega arith))
@@ -41,18 +41,18 @@ rise-test n m k fits = by (dec_le m (n - k))
 
 -- what the rules say of a request on a state is what they say of it on the racks that it names
 module _ (s : State) {q : Request} where
-  pub of-capacity : (i a : ℕ) {r : Rack} → r ≡ rackAt s i → q ≡ Capacity i a → ruling (r ∷ []) (Capacity 0 a) ≡ ruling s q
-  unfolding ruling overCapacity overStored overLimit
-  of-capacity i a rack kind = rw (rack, kind)
+  pub of_capacity : (i a : ℕ) {r : Rack} → r ≡ rack_at s i → q ≡ Capacity i a → ruling (r ∷ []) (Capacity 0 a) ≡ ruling s q
+  unfolding ruling over_capacity over_stored over_limit
+  of_capacity i a rack kind = rw (rack, kind)
 
-  pub of-charge : (i a : ℕ) {r : Rack} → r ≡ rackAt s i → q ≡ Charge i a → ruling (r ∷ []) (Charge 0 a) ≡ ruling s q
-  unfolding ruling overCapacity overStored overLimit
-  of-charge i a rack kind = rw (rack, kind)
+  pub of_charge : (i a : ℕ) {r : Rack} → r ≡ rack_at s i → q ≡ Charge i a → ruling (r ∷ []) (Charge 0 a) ≡ ruling s q
+  unfolding ruling over_capacity over_stored over_limit
+  of_charge i a rack kind = rw (rack, kind)
 
-  pub of-discharge : (i a : ℕ) {r : Rack} → r ≡ rackAt s i → q ≡ Discharge i a → ruling (r ∷ []) (Discharge 0 a) ≡ ruling s q
-  unfolding ruling overCapacity overStored overLimit
-  of-discharge i a rack kind = rw (rack, kind)
+  pub of_discharge : (i a : ℕ) {r : Rack} → r ≡ rack_at s i → q ≡ Discharge i a → ruling (r ∷ []) (Discharge 0 a) ≡ ruling s q
+  unfolding ruling over_capacity over_stored over_limit
+  of_discharge i a rack kind = rw (rack, kind)
 
-  pub of-move : (i o a : ℕ) {r t : Rack} → r ≡ rackAt s i → t ≡ rackAt s o → q ≡ Move i o a → ruling (r ∷ t ∷ []) (Move 0 1 a) ≡ ruling s q
-  unfolding ruling overCapacity overStored overLimit
-  of-move i o a rack other kind = rw (rack, other, kind)
+  pub of_move : (i o a : ℕ) {r t : Rack} → r ≡ rack_at s i → t ≡ rack_at s o → q ≡ Move i o a → ruling (r ∷ t ∷ []) (Move 0 1 a) ≡ ruling s q
+  unfolding ruling over_capacity over_stored over_limit
+  of_move i o a rack other kind = rw (rack, other, kind)

@@ -7,34 +7,34 @@ use Rattle.refusals.specs.declared.Refusal.{Refusal}
 use Rattle.refusals.specs.declared.Refusal.TheVariants.{Request as RequestRefusal}
 use Rattle.requests.specs.declared.Reading.{Reading}
 use Rattle.requests.specs.declared.Reading.TheVariants.{Formed, Malformed}
-use Rattle.requests.specs.Requests.{readRequest}
+use Rattle.requests.specs.Requests.{read_request}
 use Rattle.rules.specs.declared.Ruling.{Ruling}
 use Rattle.rules.specs.declared.Ruling.TheVariants.{Free, Barred}
-use Rattle.rules.specs.Rules.{ruling, carryOut}
+use Rattle.rules.specs.Rules.{ruling, carry_out}
 
 -- what comes of a request, or of a row of them
 pub data Booked : Type 0 where
   booked : State → Booked
   refused : Refusal → Booked
 
-abbrev pub byRuling : Ruling → State → Booked
-byRuling Free s = booked s
-byRuling (Barred r) s = refused r
+abbrev pub by_ruling : Ruling → State → Booked
+by_ruling Free s = booked s
+by_ruling (Barred r) s = refused r
 
-abbrev pub byReading : State → Reading → Booked
-byReading s Malformed = refused RequestRefusal
-byReading s (Formed q) = byRuling (ruling s q) (carryOut s q)
+abbrev pub by_reading : State → Reading → Booked
+by_reading s Malformed = refused RequestRefusal
+by_reading s (Formed q) = by_ruling (ruling s q) (carry_out s q)
 
 -- one request's bytes on a state of n racks
 unfoldable pub book : ℕ → State → List ℕ → Booked
-book n s l = byReading s (readRequest n l)
+book n s l = by_reading s (read_request n l)
 
 -- requests in order: the first refusal ends it
 
-abbrev pub thenBook : (State → Booked) → Booked → Booked
-thenBook next (booked s) = next s
-thenBook next (refused r) = refused r
+abbrev pub then_book : (State → Booked) → Booked → Booked
+then_book next (booked s) = next s
+then_book next (refused r) = refused r
 
 unfoldable pub replay : ℕ → State → List (List ℕ) → Booked
 replay n s [] = booked s
-replay n s (l ∷ ls) = thenBook (λ t. replay n t ls) (book n s l)
+replay n s (l ∷ ls) = then_book (λ t. replay n t ls) (book n s l)

@@ -4,20 +4,20 @@ use Rattle.std.specs.Prelude.{ℕ, ◌+◌, List, [], ◌∷◌}
 use Rattle.requests.specs.declared.Request.{Request}
 use Rattle.requests.specs.declared.Reading.{Reading}
 use Rattle.requests.specs.declared.Reading.TheVariants.{Formed, Malformed}
-use Rattle.requests.specs.Requests.{readRequest, charged, discharged}
+use Rattle.requests.specs.Requests.{read_request, charged, discharged}
 
 -- a figure of a request that was read; what is not well formed counts for nothing
-abbrev pub ofReading : (Request → ℕ) → Reading → ℕ
-ofReading figure (Formed q) = figure q
-ofReading figure Malformed = 0
+abbrev pub of_reading : (Request → ℕ) → Reading → ℕ
+of_reading figure (Formed q) = figure q
+of_reading figure Malformed = 0
 
 -- a figure, over a row of requests among n racks
 unfoldable pub sum_of : (Request → ℕ) → ℕ → List (List ℕ) → ℕ
 sum_of figure n [] = 0
-sum_of figure n (l ∷ ls) = ofReading figure (readRequest n l) + sum_of figure n ls
+sum_of figure n (l ∷ ls) = of_reading figure (read_request n l) + sum_of figure n ls
 
-abbrev pub sumCharged : ℕ → List (List ℕ) → ℕ
-sumCharged n ls = sum_of charged n ls
+abbrev pub sum_charged : ℕ → List (List ℕ) → ℕ
+sum_charged n ls = sum_of charged n ls
 
-abbrev pub sumDischarged : ℕ → List (List ℕ) → ℕ
-sumDischarged n ls = sum_of discharged n ls
+abbrev pub sum_discharged : ℕ → List (List ℕ) → ℕ
+sum_discharged n ls = sum_of discharged n ls

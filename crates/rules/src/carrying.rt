@@ -1,10 +1,10 @@
 // What a request changes: a function for each kind. No test is made here; what the rules allow is required.
 ghost use Rattle.std.specs.Prelude.{◌≡◌};
-ghost use Rattle.racks.specs.Racks.{rackAt};
-ghost use Rattle.racks.specs.Layout.{bytesOfState};
-ghost use Rattle.requests.specs.Requests.{rackOfRequest};
-ghost use Rattle.rules.specs.Rules.{withCapacity, chargedBy, dischargedBy, carryOut};
-ghost use Rattle.rules.specs.Ready.{TakesIn, GivesOut, stateIn, Holds, Put, Ready};
+ghost use Rattle.racks.specs.Racks.{rack_at};
+ghost use Rattle.racks.specs.Layout.{bytes_of_state};
+ghost use Rattle.requests.specs.Requests.{rack_of_request};
+ghost use Rattle.rules.specs.Rules.{with_capacity, charged_by, discharged_by, carry_out};
+ghost use Rattle.rules.specs.Ready.{TakesIn, GivesOut, state_in, Holds, Put, Ready};
 
 use super::state::{put_rack, rack_at};
 use racks::Rack;
@@ -13,8 +13,8 @@ use requests::Request;
 // Carries a request out that nothing bars; what is stored in its rack then, for a move in the one that gives.
 pub fn carry_out(state: &mut [u8], q: Request) -> u32
     requires { Ready state.old q }
-    ensures state_after { state.new ≡ bytesOfState (carryOut (stateIn state.old) q) }
-    ensures value { result ≡ (rackAt (carryOut (stateIn state.old) q) (rackOfRequest q)).stored }
+    ensures state_after { state.new ≡ bytes_of_state (carry_out (state_in state.old) q) }
+    ensures value { result ≡ (rack_at (carry_out (state_in state.old) q) (rack_of_request q)).stored }
 {
     match q {
         Request::Capacity { rack, amount } => set_capacity(state, rack, amount),
@@ -35,7 +35,7 @@ pub fn carry_out(state: &mut [u8], q: Request) -> u32
 // The rack's capacity becomes amount.
 fn set_capacity(state: &mut [u8], rack: usize, amount: u32) -> u32
     requires { Holds state.old rack }
-    ensures { Put state.old state.new rack (withCapacity amount (rackAt (stateIn state.old) rack)) result }
+    ensures { Put state.old state.new rack (with_capacity amount (rack_at (state_in state.old) rack)) result }
 {
     let r = rack_at(state, rack);
     put_rack(
@@ -53,8 +53,8 @@ fn set_capacity(state: &mut [u8], rack: usize, amount: u32) -> u32
 // Stored and taken in rise by amount.
 fn charge(state: &mut [u8], rack: usize, amount: u32) -> u32
     requires holds { Holds state.old rack }
-    requires takes_in { TakesIn amount (rackAt (stateIn state.old) rack) }
-    ensures { Put state.old state.new rack (chargedBy amount (rackAt (stateIn state.old) rack)) result }
+    requires takes_in { TakesIn amount (rack_at (state_in state.old) rack) }
+    ensures { Put state.old state.new rack (charged_by amount (rack_at (state_in state.old) rack)) result }
 {
     let r = rack_at(state, rack);
     put_rack(
@@ -72,8 +72,8 @@ fn charge(state: &mut [u8], rack: usize, amount: u32) -> u32
 // Stored falls and given out rises by amount.
 fn discharge(state: &mut [u8], rack: usize, amount: u32) -> u32
     requires holds { Holds state.old rack }
-    requires gives_out { GivesOut amount (rackAt (stateIn state.old) rack) }
-    ensures { Put state.old state.new rack (dischargedBy amount (rackAt (stateIn state.old) rack)) result }
+    requires gives_out { GivesOut amount (rack_at (state_in state.old) rack) }
+    ensures { Put state.old state.new rack (discharged_by amount (rack_at (state_in state.old) rack)) result }
 {
     let r = rack_at(state, rack);
     put_rack(

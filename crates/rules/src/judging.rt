@@ -2,7 +2,7 @@
 ghost use Rattle.std.specs.Prelude.{◌≡◌, [], ◌∷◌, ◌+◌, ltb};
 ghost use Rattle.requests.specs.Range.{Named};
 ghost use Rattle.rules.specs.Rules.{ruling};
-ghost use Rattle.rules.specs.Ready.{racksIn, stateIn};
+ghost use Rattle.rules.specs.Ready.{racks_in, state_in};
 
 use super::Ruling;
 use super::state::rack_at;
@@ -12,8 +12,8 @@ use requests::Request;
 
 // What the rules say of a request on the state that lies in the bytes, whatever its figures are.
 pub fn judge(state: &[u8], q: Request) -> Ruling
-    requires { Named (racksIn state.now) q }
-    ensures { result ≡ ruling (stateIn state.now) q }
+    requires { Named (racks_in state.now) q }
+    ensures { result ≡ ruling (state_in state.now) q }
 {
     match q {
         Request::Capacity { rack, amount } => on_capacity(rack_at(state, rack), amount),

@@ -1,14 +1,14 @@
 // The state where it lies: a rack of it is read and written in the caller's bytes.
 ghost use Rattle.std.specs.Prelude.{◌≡◌, ◌<◌};
-ghost use Rattle.racks.specs.Racks.{rackAt};
-ghost use Rattle.rules.specs.Ready.{racksIn, stateIn, Holds, Put};
+ghost use Rattle.racks.specs.Racks.{rack_at};
+ghost use Rattle.rules.specs.Ready.{racks_in, state_in, Holds, Put};
 
 use racks::{RACK_SIZE, Rack, read_rack, write_rack};
 
 // Rack i of the state.
 pub(crate) fn rack_at(state: &[u8], i: usize) -> Rack
-    requires { i < racksIn state.now }
-    ensures { result ≡ rackAt (stateIn state.now) i }
+    requires { i < racks_in state.now }
+    ensures { result ≡ rack_at (state_in state.now) i }
 {
     read_rack(state, i * RACK_SIZE)
 }

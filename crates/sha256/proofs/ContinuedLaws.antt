@@ -9,10 +9,10 @@ use Rattle.sha256_words.specs.Words.{word_at}
 use Rattle.sha256.specs.Computation.{H₀}
 use Rattle.sha256.specs.Padding.{padding, pad}
 use Rattle.sha256.specs.Parsing.{words, block, blocks}
-use Rattle.sha256_block.specs.Step.{nextHash}
+use Rattle.sha256_block.specs.Step.{next_hash}
 use Rattle.sha256.specs.Computation.{hashes, digest, sha256}
-use Rattle.sha256.specs.Continued.{sha256After}
-use Rattle.sha256.proofs.MessageLaws.{byte-front, byte-back, same-words, word-1, length-padded}
+use Rattle.sha256.specs.Continued.{sha256_after}
+use Rattle.sha256.proofs.MessageLaws.{byte_front, byte_back, same-words, word_1, length_padded}
 
 -- ---- blocks
 
@@ -27,14 +27,14 @@ same_rows p q i j (suc n) same =
 pub block_1 : (a b c d : List ℕ) (i : ℕ) → 64 * i + 64 ≤ length a → block (a ++ b ++ c ++ d) i ≡ block a i
 unfolding block
 block_1 a b c d i inside =
-    same_rows (a ++ b ++ c ++ d) a (64 * i) (64 * i) 16 (λ t h. word-1 a b c d (64 * i + 4 * t) (omega arith))
+    same_rows (a ++ b ++ c ++ d) a (64 * i) (64 * i) 16 (λ t h. word_1 a b c d (64 * i + 4 * t) (omega arith))
 
 -- a block of what begins with its list
 block-front : (q p : List ℕ) (i : ℕ) → 64 * i + 64 ≤ length q → block (q ++ p) i ≡ block q i
 unfolding block
 block-front q p i inside =
     same_rows (q ++ p) q (64 * i) (64 * i) 16
-    (λ t h. same-words (q ++ p) q (64 * i + 4 * t) (64 * i + 4 * t) (λ n k. byte-front q p (64 * i + 4 * t + n) (omega arith)))
+    (λ t h. same-words (q ++ p) q (64 * i + 4 * t) (64 * i + 4 * t) (λ n k. byte_front q p (64 * i + 4 * t + n) (omega arith)))
 
 -- a block of what ends with its list, behind n blocks
 block_back : (q p : List ℕ) (n i : ℕ) → length q ≡ 64 * n → block (q ++ p) (n + i) ≡ block p i
@@ -42,7 +42,7 @@ unfolding block
 block_back q p n i long =
     same_rows (q ++ p) p (64 * (n + i)) (64 * i) 16
     (λ t h. same-words (q ++ p) p (64 * (n + i) + 4 * t) (64 * i + 4 * t)
-    (λ m k. byte-back q p (64 * i + 4 * t + m) (64 * (n + i) + 4 * t + m) (omega arith)))
+    (λ m k. byte_back q p (64 * i + 4 * t + m) (64 * (n + i) + 4 * t + m) (omega arith)))
 
 -- ---- hash values
 
@@ -50,43 +50,43 @@ hashes-front : (H q p : List ℕ) (i : ℕ) → 64 * i ≤ length q → hashes H
 unfolding hashes
 hashes-front H q p zero inside = refl
 hashes-front H q p (suc i) inside =
-    ap₂ nextHash (hashes-front H q p i (omega arith)) (block-front q p i (omega arith))
+    ap₂ next_hash (hashes-front H q p i (omega arith)) (block-front q p i (omega arith))
 
-hashes-back : (H q p : List ℕ) (n i : ℕ) → length q ≡ 64 * n → hashes H (q ++ p) (n + i) ≡ hashes (hashes H q n) p i
+hashes_back : (H q p : List ℕ) (n i : ℕ) → length q ≡ 64 * n → hashes H (q ++ p) (n + i) ≡ hashes (hashes H q n) p i
 unfolding hashes
-hashes-back H q p n zero long =
+hashes_back H q p n zero long =
     let same : n + 0 ≡ n = omega arith in
     ap (hashes H (q ++ p)) same ∙ hashes-front H q p n (omega arith)
-hashes-back H q p n (suc i) long =
+hashes_back H q p n (suc i) long =
     let next : n + suc i ≡ suc (n + i) = omega arith in
-    ap (hashes H (q ++ p)) next ∙ ap₂ nextHash (hashes-back H q p n i long) (block_back q p n i long)
+    ap (hashes H (q ++ p)) next ∙ ap₂ next_hash (hashes_back H q p n i long) (block_back q p n i long)
 
 -- one block, from the value H
-pub one_block : (H a b c d : List ℕ) → 64 ≤ length a → hashes H (a ++ b ++ c ++ d) 1 ≡ nextHash H (block a 0)
+pub one_block : (H a b c d : List ℕ) → 64 ≤ length a → hashes H (a ++ b ++ c ++ d) 1 ≡ next_hash H (block a 0)
 unfolding hashes
-one_block H a b c d inside = ap (nextHash H) (block_1 a b c d 0 inside)
+one_block H a b c d inside = ap (next_hash H) (block_1 a b c d 0 inside)
 
 -- ---- the digest
 
 -- the digest of the rest, from the length of the whole message and the number of blocks as the code counts them
 pub after : (H : List ℕ) (n : ℕ) (m : List ℕ) (len count : ℕ) → len ≡ 64 * n + length m → count ≡ (length m + 72) / 64
-    → digest (hashes H (m ++ padding len) count) 8 ≡ sha256After H n m
-unfolding sha256After blocks
+    → digest (hashes H (m ++ padding len) count) 8 ≡ sha256_after H n m
+unfolding sha256_after blocks
 after H n m len count long number =
     let p = m ++ padding (64 * n + length m) in
     let whole : length p ≡ 64 * ((length m + 72) / 64) =
-    length-append m (padding (64 * n + length m)) ∙ length-padded (64 * n + length m) (length m) (omega arith) in
+    length-append m (padding (64 * n + length m)) ∙ length_padded (64 * n + length m) (length m) (omega arith) in
     let same : count ≡ length p / 64 = omega arith in
     ap₂ (λ (l i : ℕ). digest (hashes H (m ++ padding l) i) 8) long same
 
 -- the hash of a message whose first n blocks are q
-pub sha256-after : (q m : List ℕ) (n : ℕ) → length q ≡ 64 * n → sha256 (q ++ m) ≡ sha256After (hashes H₀ q n) n m
-unfolding sha256After sha256 pad blocks
-sha256-after q m n long =
+pub sha256_after_lem : (q m : List ℕ) (n : ℕ) → length q ≡ 64 * n → sha256 (q ++ m) ≡ sha256_after (hashes H₀ q n) n m
+unfolding sha256_after sha256 pad blocks
+sha256_after_lem q m n long =
     let p = m ++ padding (64 * n + length m) in
     let total : length (q ++ m) ≡ 64 * n + length m = length-append q m ∙ ap (λ (x : ℕ). x + length m) long in
     let split : q ++ m ++ padding (length (q ++ m)) ≡ q ++ p = ap (λ (l : ℕ). q ++ m ++ padding l) total ∙ append_assoc q m (padding (64 * n + length m)) in
     let count : length (q ++ p) / 64 ≡ n + length p / 64 = omega (arith, length-append q p) in
     ap (λ (l : List ℕ). digest (hashes H₀ l (length l / 64)) 8) split
     ∙ ap (λ (i : ℕ). digest (hashes H₀ (q ++ p) i) 8) count
-    ∙ ap (λ (v : List ℕ). digest v 8) (hashes-back H₀ q p n (length p / 64) long)
+    ∙ ap (λ (v : List ℕ). digest v 8) (hashes_back H₀ q p n (length p / 64) long)

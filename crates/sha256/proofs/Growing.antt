@@ -16,9 +16,9 @@ pub filled : (l : List ℕ) (n : ℕ) {s : List ℕ} → length l ≤ n → take
 filled l n all front = sym (take_all n l all) ∙ front
 
 -- four more
-pub four-more : (l : List ℕ) (n x₀ x₁ x₂ x₃ : ℕ) {s : List ℕ} → n + 4 ≤ length l → take n l ≡ s
+pub four_more : (l : List ℕ) (n x₀ x₁ x₂ x₃ : ℕ) {s : List ℕ} → n + 4 ≤ length l → take n l ≡ s
     → take (n + 4) (set (set (set (set l n x₀) (n + 1) x₁) (n + 2) x₂) (n + 3) x₃) ≡ s ++ (x₀ ∷ x₁ ∷ x₂ ∷ x₃ ∷ [])
-four-more l n x₀ x₁ x₂ x₃ {s} fits front =
+four_more l n x₀ x₁ x₂ x₃ {s} fits front =
     let l₁ = set l n x₀ in
     let l₂ = set l₁ (n + 1) x₁ in
     let l₃ = set l₂ (n + 2) x₂ in

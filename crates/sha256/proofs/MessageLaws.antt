@@ -17,12 +17,12 @@ use Rattle.sha256.specs.Continued.{Within}
 -- ---- bytes
 
 -- a byte of a list stands in what begins with it
-pub byte-front : (x y : List ℕ) (i : ℕ) → i < length x → get_or (x ++ y) i 0 ≡ get_or x i 0
-byte-front x y i inside = get_or-append x y 0 i inside
+pub byte_front : (x y : List ℕ) (i : ℕ) → i < length x → get_or (x ++ y) i 0 ≡ get_or x i 0
+byte_front x y i inside = get_or-append x y 0 i inside
 
 -- a byte of a list stands in what ends with it
-pub byte-back : (x y : List ℕ) (i j : ℕ) → j ≡ length x + i → get_or (x ++ y) j 0 ≡ get_or y i 0
-byte-back x y i j place = rw place (get_or-append-add x y i 0)
+pub byte_back : (x y : List ℕ) (i j : ℕ) → j ≡ length x + i → get_or (x ++ y) j 0 ≡ get_or y i 0
+byte_back x y i j place = rw place (get_or-append-add x y i 0)
 
 -- past the end stands 0
 pub byte_past : (x : List ℕ) (i : ℕ) → length x ≤ i → get_or x i 0 ≡ 0
@@ -30,35 +30,35 @@ byte_past x i past = get_or-eq_default x 0 past
 
 module _ (a b c d : List ℕ) where
   -- how long four lists are
-  pub length-4 : length (a ++ b ++ c ++ d) ≡ length a + length b + length c + length d
-  length-4 = simp length-append
+  pub length_4 : length (a ++ b ++ c ++ d) ≡ length a + length b + length c + length d
+  length_4 = simp length-append
 
   -- a byte of the first of four lists
-  pub byte-1 : (i : ℕ) → i < length a → get_or (a ++ b ++ c ++ d) i 0 ≡ get_or a i 0
-  byte-1 i inside =
+  pub byte_1 : (i : ℕ) → i < length a → get_or (a ++ b ++ c ++ d) i 0 ≡ get_or a i 0
+  byte_1 i inside =
       let one : i < length (a ++ b) = simp length-append (omega arith) in
       let two : i < length (a ++ b ++ c) = simp length-append (omega arith) in
-      byte-front (a ++ b ++ c) d i two ∙ byte-front (a ++ b) c i one ∙ byte-front a b i inside
+      byte_front (a ++ b ++ c) d i two ∙ byte_front (a ++ b) c i one ∙ byte_front a b i inside
 
   -- of the second
-  pub byte-2 : (i j : ℕ) → j ≡ length a + i → i < length b → get_or (a ++ b ++ c ++ d) j 0 ≡ get_or b i 0
-  byte-2 i j place inside =
+  pub byte_2 : (i j : ℕ) → j ≡ length a + i → i < length b → get_or (a ++ b ++ c ++ d) j 0 ≡ get_or b i 0
+  byte_2 i j place inside =
       let one : j < length (a ++ b) = simp length-append (omega arith) in
       let two : j < length (a ++ b ++ c) = simp length-append (omega arith) in
-      byte-front (a ++ b ++ c) d j two ∙ byte-front (a ++ b) c j one ∙ byte-back a b i j place
+      byte_front (a ++ b ++ c) d j two ∙ byte_front (a ++ b) c j one ∙ byte_back a b i j place
 
   -- of the third
-  pub byte-3 : (i j : ℕ) → j ≡ length a + length b + i → i < length c → get_or (a ++ b ++ c ++ d) j 0 ≡ get_or c i 0
-  byte-3 i j place inside =
+  pub byte_3 : (i j : ℕ) → j ≡ length a + length b + i → i < length c → get_or (a ++ b ++ c ++ d) j 0 ≡ get_or c i 0
+  byte_3 i j place inside =
       let two : j < length (a ++ b ++ c) = simp length-append (omega arith) in
       let back : j ≡ length (a ++ b) + i = simp length-append place in
-      byte-front (a ++ b ++ c) d j two ∙ byte-back (a ++ b) c i j back
+      byte_front (a ++ b ++ c) d j two ∙ byte_back (a ++ b) c i j back
 
   -- of the fourth
-  pub byte-4 : (i j : ℕ) → j ≡ length a + length b + length c + i → get_or (a ++ b ++ c ++ d) j 0 ≡ get_or d i 0
-  byte-4 i j place =
+  pub byte_4 : (i j : ℕ) → j ≡ length a + length b + length c + i → get_or (a ++ b ++ c ++ d) j 0 ≡ get_or d i 0
+  byte_4 i j place =
       let back : j ≡ length (a ++ b ++ c) + i = simp length-append place in
-      byte-back (a ++ b ++ c) d i j back
+      byte_back (a ++ b ++ c) d i j back
 
 -- ---- words
 
@@ -72,20 +72,20 @@ same-words p q i j same =
 
 module _ (a b c d : List ℕ) where
   -- a word inside the first of four lists
-  pub word-1 : (i : ℕ) → i + 4 ≤ length a → word_at (a ++ b ++ c ++ d) i ≡ word_at a i
-  word-1 i inside = same-words (a ++ b ++ c ++ d) a i i (λ n h. byte-1 a b c d (i + n) (omega arith))
+  pub word_1 : (i : ℕ) → i + 4 ≤ length a → word_at (a ++ b ++ c ++ d) i ≡ word_at a i
+  word_1 i inside = same-words (a ++ b ++ c ++ d) a i i (λ n h. byte_1 a b c d (i + n) (omega arith))
 
   -- inside the second
-  pub word-2 : (i j : ℕ) → j ≡ length a + i → i + 4 ≤ length b → word_at (a ++ b ++ c ++ d) j ≡ word_at b i
-  word-2 i j place inside = same-words (a ++ b ++ c ++ d) b j i (λ n h. byte-2 a b c d (i + n) (j + n) (omega arith) (omega arith))
+  pub word_2 : (i j : ℕ) → j ≡ length a + i → i + 4 ≤ length b → word_at (a ++ b ++ c ++ d) j ≡ word_at b i
+  word_2 i j place inside = same-words (a ++ b ++ c ++ d) b j i (λ n h. byte_2 a b c d (i + n) (j + n) (omega arith) (omega arith))
 
   -- inside the third
-  pub word-3 : (i j : ℕ) → j ≡ length a + length b + i → i + 4 ≤ length c → word_at (a ++ b ++ c ++ d) j ≡ word_at c i
-  word-3 i j place inside = same-words (a ++ b ++ c ++ d) c j i (λ n h. byte-3 a b c d (i + n) (j + n) (omega arith) (omega arith))
+  pub word_3 : (i j : ℕ) → j ≡ length a + length b + i → i + 4 ≤ length c → word_at (a ++ b ++ c ++ d) j ≡ word_at c i
+  word_3 i j place inside = same-words (a ++ b ++ c ++ d) c j i (λ n h. byte_3 a b c d (i + n) (j + n) (omega arith) (omega arith))
 
   -- in the fourth
-  pub word-4 : (i j : ℕ) → j ≡ length a + length b + length c + i → word_at (a ++ b ++ c ++ d) j ≡ word_at d i
-  word-4 i j place = same-words (a ++ b ++ c ++ d) d j i (λ n h. byte-4 a b c d (i + n) (j + n) (omega arith))
+  pub word_4 : (i j : ℕ) → j ≡ length a + length b + length c + i → word_at (a ++ b ++ c ++ d) j ≡ word_at d i
+  word_4 i j place = same-words (a ++ b ++ c ++ d) d j i (λ n h. byte_4 a b c d (i + n) (j + n) (omega arith))
 
 -- ---- the padding
 
@@ -95,14 +95,14 @@ unfolding padding bytes_of
 length-padding len = simp (length-append, length-replicate) (omega arith)
 
 -- the zeros are less than a block
-pub k-small : (len : ℕ) → k (8 * len) / 8 < 64
+pub k_small : (len : ℕ) → k (8 * len) / 8 < 64
 unfolding k
-k-small len = omega arith
+k_small len = omega arith
 
 -- and so, behind the rest of a message, the blocks' number
-pub length-padded : (len n : ℕ) → len % 64 ≡ n % 64 → n + length (padding len) ≡ 64 * ((n + 72) / 64)
+pub length_padded : (len n : ℕ) → len % 64 ≡ n % 64 → n + length (padding len) ≡ 64 * ((n + 72) / 64)
 unfolding k
-length-padded len n whole = omega (arith, length-padding len)
+length_padded len n whole = omega (arith, length-padding len)
 
 -- the sizes of three pieces that end a message of len bytes, and of their padding
 pub record Sizes (a b c : List ℕ) (len : ℕ) : Type 0 where
@@ -122,8 +122,8 @@ sizes a b c len within =
       rest = omega arith;
       whole = omega arith;
       pieces = three;
-      padded = length-4 a b c (padding len);
-      blocks = length-padded len (length a + length b + length c) (omega arith);
+      padded = length_4 a b c (padding len);
+      blocks = length_padded len (length a + length b + length c) (omega arith);
       least = omega (arith, length-padding len);
     }
 
@@ -142,36 +142,36 @@ pub room : (n p q i : ℕ) → n + p ≡ 64 * q → i % 4 ≡ 0 → i ≤ n → 
 room n p q i blocks even begins least = omega arith
 
 -- the byte 0x80, the zeros behind it, and zero behind those, as if there were no more
-byte-zeros : (m f : List ℕ) (z i : ℕ) → i < length m + suc z → get_or (m ++ (128 ∷ replicate z 0 ++ f)) i 0 ≡ get_or (m ++ (128 ∷ [])) i 0
-byte-zeros [] f z zero h = refl
-byte-zeros [] f z (suc i) h =
+byte_zeros : (m f : List ℕ) (z i : ℕ) → i < length m + suc z → get_or (m ++ (128 ∷ replicate z 0 ++ f)) i 0 ≡ get_or (m ++ (128 ∷ [])) i 0
+byte_zeros [] f z zero h = refl
+byte_zeros [] f z (suc i) h =
     let zeros : List ℕ = replicate z 0 in
     let short : i < z = omega arith in
     let inside : i < length zeros = simp length-replicate short in
-    byte-front zeros f i inside ∙ get_or-replicate z i 0 0 short
-byte-zeros (x ∷ m) f z zero h = refl
-byte-zeros (x ∷ m) f z (suc i) h = byte-zeros m f z i (omega arith)
+    byte_front zeros f i inside ∙ get_or-replicate z i 0 0 short
+byte_zeros (x ∷ m) f z zero h = refl
+byte_zeros (x ∷ m) f z (suc i) h = byte_zeros m f z i (omega arith)
 
 -- a word that lies before the length field
-pub word-before-length : (m : List ℕ) (len i : ℕ) → i + 12 ≤ length m + length (padding len)
+pub word_before_length : (m : List ℕ) (len i : ℕ) → i + 12 ≤ length m + length (padding len)
     → word_at (m ++ padding len) i ≡ word_at (m ++ (128 ∷ [])) i
 unfolding padding
-word-before-length m len i before =
+word_before_length m len i before =
     same-words (m ++ padding len) (m ++ (128 ∷ [])) i i
-    (λ n h. byte-zeros m (bytes_of 8 (8 * len)) (k (8 * len) / 8) (i + n) (omega (arith, length-padding len)))
+    (λ n h. byte_zeros m (bytes_of 8 (8 * len)) (k (8 * len) / 8) (i + n) (omega (arith, length-padding len)))
 
 -- the eight bytes of the length, as two words
-length-upper : (x : ℕ) → x < 2 ^ 32 → word_at (bytes_of 8 x) 0 ≡ 0
+length_upper : (x : ℕ) → x < 2 ^ 32 → word_at (bytes_of 8 x) 0 ≡ 0
 unfolding word_at bytes_of
-length-upper x small = omega arith
+length_upper x small = omega arith
 
 -- a number from its remainders by 256
 from_bytes : (x a b c r₀ r₁ r₂ : ℕ) → x ≡ a * 256 + r₀ → a ≡ b * 256 + r₁ → b ≡ c * 256 + r₂ → c * 2 ^ 24 + r₂ * 2 ^ 16 + r₁ * 2 ^ 8 + r₀ ≡ x
 from_bytes x a b c r₀ r₁ r₂ p q r = omega arith
 
-length-lower : (x : ℕ) → x < 2 ^ 32 → word_at (bytes_of 8 x) 4 ≡ x
+length_lower : (x : ℕ) → x < 2 ^ 32 → word_at (bytes_of 8 x) 4 ≡ x
 unfolding word_at bytes_of
-length-lower x small =
+length_lower x small =
     let top : x / 16777216 % 256 ≡ x / 256 / 256 / 256 = omega arith in
     let next : x / 65536 % 256 ≡ x / 256 / 256 % 256 = omega arith in
     let last : x / 1 % 256 ≡ x % 256 = omega arith in
@@ -183,30 +183,30 @@ length-lower x small =
 
 module _ (len i : ℕ) (bound : len ≤ 65536) (behind : 1 ≤ i) (inside : i + 4 ≤ length (padding len)) (aligned : (len + i) % 4 ≡ 0) where
   -- a word of the length field, j bytes into it
-  in-length : (j : ℕ) → i + 8 ≡ length (padding len) + j → word_at (padding len) i ≡ word_at (bytes_of 8 (8 * len)) j
+  in_length : (j : ℕ) → i + 8 ≡ length (padding len) + j → word_at (padding len) i ≡ word_at (bytes_of 8 (8 * len)) j
   unfolding padding
-  in-length j place =
+  in_length j place =
       let zeros : List ℕ = replicate (k (8 * len) / 8) 0 in
       let long : length zeros ≡ k (8 * len) / 8 = length-replicate (k (8 * len) / 8) 0 in
       same-words (padding len) (bytes_of 8 (8 * len)) i j
-      (λ n h. byte-back (128 ∷ zeros) (bytes_of 8 (8 * len)) (j + n) (i + n) (omega (arith, length-padding len)))
+      (λ n h. byte_back (128 ∷ zeros) (bytes_of 8 (8 * len)) (j + n) (i + n) (omega (arith, length-padding len)))
 
   -- the last word is the length in bits
   pub padding-last : len + i + 4 ≡ (len + 72) / 64 * 64 → word_at (padding len) i ≡ 8 * len
-  padding-last last = in-length 4 (omega (arith, length-padded len len refl)) ∙ length-lower (8 * len) (omega arith)
+  padding-last last = in_length 4 (omega (arith, length_padded len len refl)) ∙ length_lower (8 * len) (omega arith)
 
   -- a word before the length field is zero
-  in-zeros : i + 12 ≤ length (padding len) → word_at (padding len) i ≡ 0
+  in_zeros : i + 12 ≤ length (padding len) → word_at (padding len) i ≡ 0
   unfolding word_at
-  in-zeros before =
-      word-before-length [] len i (omega arith)
+  in_zeros before =
+      word_before_length [] len i (omega arith)
       ∙ same-words (128 ∷ []) [] i 0 (λ n h. byte_past (128 ∷ []) (i + n) (omega arith))
 
   -- every other word is zero: before the length field, or its upper word
   pub padding-other : (len + i + 4 ≡ (len + 72) / 64 * 64 → ⊥) → word_at (padding len) i ≡ 0
   padding-other other =
-      split (i + 12) (length (padding len)) in-zeros
-      (λ late. in-length 0 (omega (arith, length-padded len len refl)) ∙ length-upper (8 * len) (omega arith))
+      split (i + 12) (length (padding len)) in_zeros
+      (λ late. in_length 0 (omega (arith, length_padded len len refl)) ∙ length_upper (8 * len) (omega arith))
     where
       split : (m n : ℕ) {X : Type 0} → (m ≤ n → X) → (n < m → X) → X
       split m n f g = elim (dec_le m n) [ yes h ↦ f h | no h ↦ g (lt_of_not-le h) ]

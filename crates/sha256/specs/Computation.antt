@@ -1,7 +1,7 @@
 -- FIPS 180-4, section 6.2: SHA-256 of a message, from the initial value of 5.3.3 on, block by block. Assumes nothing.
 use Rattle.std.specs.Prelude.{ℕ, zero, suc, List, [], ◌∷◌, ◌++◌, get_or}
 use Rattle.numbers.specs.Numbers.{bytes_of}
-use Rattle.sha256_block.specs.Step.{nextHash}
+use Rattle.sha256_block.specs.Step.{next_hash}
 use Rattle.sha256.specs.Padding.{pad}
 use Rattle.sha256.specs.Parsing.{block, blocks}
 
@@ -13,7 +13,7 @@ H₀ =
 -- the hash value after the first i blocks of p, from the value H
 unfoldable pub hashes : List ℕ → List ℕ → ℕ → List ℕ
 hashes H p zero = H
-hashes H p (suc i) = nextHash (hashes H p i) (block p i)
+hashes H p (suc i) = next_hash (hashes H p i) (block p i)
 
 -- the digest, H_0^(N) ‖ .. ‖ H_7^(N), as 32 bytes: the bytes of the first n words
 unfoldable pub digest : List ℕ → ℕ → List ℕ

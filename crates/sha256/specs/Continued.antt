@@ -1,5 +1,5 @@
 -- SHA-256 from the middle of a message on: n blocks have brought the hash value to H, and m is the rest of the message.
--- Not in FIPS 180-4, and used by HMAC, whose pads are one block each. `sha256-after` ties it to the standard's function.
+-- Not in FIPS 180-4, and used by HMAC, whose pads are one block each. `sha256_after_lem` ties it to the standard's function.
 -- Assumes nothing.
 use Rattle.std.specs.Prelude.{◌≡◌, ℕ, ◌+◌, ◌*◌, ◌%◌, ◌≤◌, List, ◌++◌, length}
 use Rattle.sha256.specs.Padding.{padding}
@@ -7,8 +7,8 @@ use Rattle.sha256.specs.Parsing.{blocks}
 use Rattle.sha256.specs.Computation.{hashes, digest}
 
 -- the digest: the padding counts the whole message, 64 n bytes and m
-unfoldable pub sha256After : List ℕ → ℕ → List ℕ → List ℕ
-sha256After H n m =
+unfoldable pub sha256_after : List ℕ → ℕ → List ℕ → List ℕ
+sha256_after H n m =
     let p = m ++ padding (64 * n + length m) in
     digest (hashes H p (blocks p)) 8
 

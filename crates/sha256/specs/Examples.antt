@@ -8,8 +8,8 @@ use Rattle.sha256.specs.Computation.{H₀}
 use Rattle.sha256.specs.Padding.{k, padding, pad}
 use Rattle.numbers.specs.Numbers.{bytes_of}
 use Rattle.sha256.specs.Parsing.{words, block, blocks}
-use Rattle.sha256_block.specs.Schedule.{nextWord, schedule, W}
-use Rattle.sha256_block.specs.Step.{T₁, T₂, round, roundAt, rounds, addTo, nextHash}
+use Rattle.sha256_block.specs.Schedule.{next_word, schedule, W}
+use Rattle.sha256_block.specs.Step.{T₁, T₂, round, round_at, rounds, add_to, next_hash}
 use Rattle.sha256.specs.Computation.{hashes, digest, sha256}
 
 -- ""
@@ -20,7 +20,7 @@ empty =
 pub sha256-empty : sha256 empty ≡
     0xe3 ∷ 0xb0 ∷ 0xc4 ∷ 0x42 ∷ 0x98 ∷ 0xfc ∷ 0x1c ∷ 0x14 ∷ 0x9a ∷ 0xfb ∷ 0xf4 ∷ 0xc8 ∷ 0x99 ∷ 0x6f ∷ 0xb9 ∷ 0x24 ∷
     0x27 ∷ 0xae ∷ 0x41 ∷ 0xe4 ∷ 0x64 ∷ 0x9b ∷ 0x93 ∷ 0x4c ∷ 0xa4 ∷ 0x95 ∷ 0x99 ∷ 0x1b ∷ 0x78 ∷ 0x52 ∷ 0xb8 ∷ 0x55 ∷ []
-unfolding empty word_at ◌⊞◌ SHL SHR ROTR Ch Maj Σ₀ Σ₁ σ₀ σ₁ K H₀ k bytes_of padding pad words block blocks nextWord schedule W T₁ T₂ round roundAt rounds addTo nextHash hashes digest sha256
+unfolding empty word_at ◌⊞◌ SHL SHR ROTR Ch Maj Σ₀ Σ₁ σ₀ σ₁ K H₀ k bytes_of padding pad words block blocks next_word schedule W T₁ T₂ round round_at rounds add_to next_hash hashes digest sha256
 sha256-empty = refl
 
 -- "abc"
@@ -31,7 +31,7 @@ abc =
 pub sha256-abc : sha256 abc ≡
     0xba ∷ 0x78 ∷ 0x16 ∷ 0xbf ∷ 0x8f ∷ 0x01 ∷ 0xcf ∷ 0xea ∷ 0x41 ∷ 0x41 ∷ 0x40 ∷ 0xde ∷ 0x5d ∷ 0xae ∷ 0x22 ∷ 0x23 ∷
     0xb0 ∷ 0x03 ∷ 0x61 ∷ 0xa3 ∷ 0x96 ∷ 0x17 ∷ 0x7a ∷ 0x9c ∷ 0xb4 ∷ 0x10 ∷ 0xff ∷ 0x61 ∷ 0xf2 ∷ 0x00 ∷ 0x15 ∷ 0xad ∷ []
-unfolding abc word_at ◌⊞◌ SHL SHR ROTR Ch Maj Σ₀ Σ₁ σ₀ σ₁ K H₀ k bytes_of padding pad words block blocks nextWord schedule W T₁ T₂ round roundAt rounds addTo nextHash hashes digest sha256
+unfolding abc word_at ◌⊞◌ SHL SHR ROTR Ch Maj Σ₀ Σ₁ σ₀ σ₁ K H₀ k bytes_of padding pad words block blocks next_word schedule W T₁ T₂ round round_at rounds add_to next_hash hashes digest sha256
 sha256-abc = refl
 
 -- "abcdbcdecdefdefgefghfghighijhijkijkljklmklmnlmnomnopnopq"
@@ -42,8 +42,8 @@ two_blocks =
     0x69 ∷ 0x6a ∷ 0x6b ∷ 0x6c ∷ 0x6a ∷ 0x6b ∷ 0x6c ∷ 0x6d ∷ 0x6b ∷ 0x6c ∷ 0x6d ∷ 0x6e ∷ 0x6c ∷ 0x6d ∷ 0x6e ∷ 0x6f ∷
     0x6d ∷ 0x6e ∷ 0x6f ∷ 0x70 ∷ 0x6e ∷ 0x6f ∷ 0x70 ∷ 0x71 ∷ []
 
-pub sha256-two-blocks : sha256 two_blocks ≡
+pub sha256_two_blocks : sha256 two_blocks ≡
     0x24 ∷ 0x8d ∷ 0x6a ∷ 0x61 ∷ 0xd2 ∷ 0x06 ∷ 0x38 ∷ 0xb8 ∷ 0xe5 ∷ 0xc0 ∷ 0x26 ∷ 0x93 ∷ 0x0c ∷ 0x3e ∷ 0x60 ∷ 0x39 ∷
     0xa3 ∷ 0x3c ∷ 0xe4 ∷ 0x59 ∷ 0x64 ∷ 0xff ∷ 0x21 ∷ 0x67 ∷ 0xf6 ∷ 0xec ∷ 0xed ∷ 0xd4 ∷ 0x19 ∷ 0xdb ∷ 0x06 ∷ 0xc1 ∷ []
-unfolding two_blocks word_at ◌⊞◌ SHL SHR ROTR Ch Maj Σ₀ Σ₁ σ₀ σ₁ K H₀ k bytes_of padding pad words block blocks nextWord schedule W T₁ T₂ round roundAt rounds addTo nextHash hashes digest sha256
-sha256-two-blocks = refl
+unfolding two_blocks word_at ◌⊞◌ SHL SHR ROTR Ch Maj Σ₀ Σ₁ σ₀ σ₁ K H₀ k bytes_of padding pad words block blocks next_word schedule W T₁ T₂ round round_at rounds add_to next_hash hashes digest sha256
+sha256_two_blocks = refl

@@ -7,9 +7,9 @@ mod schedule;
 ghost use Rattle.std.specs.Prelude.{◌≡◌, ◌++◌, ◌+◌, ◌*◌, ◌≤◌, length};
 ghost use Rattle.sha256.specs.Padding.{padding};
 ghost use Rattle.sha256.specs.Parsing.{block};
-ghost use Rattle.sha256_block.specs.Step.{nextHash};
+ghost use Rattle.sha256_block.specs.Step.{next_hash};
 ghost use Rattle.sha256.specs.Computation.{H₀, hashes, digest, sha256};
-ghost use Rattle.sha256.specs.Continued.{sha256After, Within};
+ghost use Rattle.sha256.specs.Continued.{sha256_after, Within};
 
 use schedule::schedule;
 use sha256_block::next_hash;
@@ -34,7 +34,7 @@ pub fn initial() -> [u32; 8]
 
 // The hash value after one more block of the message.
 pub fn absorb(h: [u32; 8], bytes: &[u8; 64]) -> [u32; 8]
-    ensures { result ≡ nextHash h (block bytes.now 0) }
+    ensures { result ≡ next_hash h (block bytes.now 0) }
 {
     let s: &[u8] = bytes;
     hash_blocks(h, s, &s[..0], &s[..0], 64, 1)
@@ -44,7 +44,7 @@ pub fn absorb(h: [u32; 8], bytes: &[u8; 64]) -> [u32; 8]
 // and c end to end.
 pub fn sha256_after(h: [u32; 8], done: usize, a: &[u8], b: &[u8], c: &[u8]) -> [u8; 32]
     requires { 64 * done + (length a.now + length b.now + length c.now) ≤ 65536 }
-    ensures { result ≡ sha256After h done (a.now ++ b.now ++ c.now) }
+    ensures { result ≡ sha256_after h done (a.now ++ b.now ++ c.now) }
 {
     let n = a.len() + b.len() + c.len();
     digest(hash_blocks(h, a, b, c, 64 * done + n, (n + 72) / 64))

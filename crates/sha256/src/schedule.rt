@@ -2,7 +2,7 @@
 ghost use Rattle.std.specs.Prelude.{◌≡◌, ◌++◌, ◌+◌, ◌*◌, ◌≤◌, length};
 ghost use Rattle.sha256.specs.Padding.{padding};
 ghost use Rattle.sha256.specs.Parsing.{block};
-ghost use Rattle.sha256_block.specs.Schedule.{nextWord, W};
+ghost use Rattle.sha256_block.specs.Schedule.{next_word, W};
 ghost use Rattle.sha256.specs.Continued.{Within};
 
 use crate::message::block_words;

@@ -1,5 +1,5 @@
 -- FIPS 180-4, section 6.2.2, step 1: the message schedule W_0 to W_63 of a block of sixteen words M_0 to M_15.
--- It is a growing list here, a word longer at each step; `W-first` and `W-next` give the standard's two equations for its words.
+-- It is a growing list here, a word longer at each step; `W_first` and `W_next` give the standard's two equations for its words.
 -- Assumes nothing.
 use Rattle.std.specs.Prelude.{◌≡◌, length}
 use Rattle.std.proofs.Math.Path.{refl, sym, ap}
@@ -13,15 +13,15 @@ use Rattle.sha256_words.specs.Words.{◌⊞◌}
 use Rattle.sha256_words.specs.Functions.{σ₀, σ₁}
 
 -- for 16 ≤ t: the word after W_{t-16} to W_{t-1}, from four of them
-unfoldable pub nextWord : ℕ → ℕ → ℕ → ℕ → ℕ
-nextWord w₋₂ w₋₇ w₋₁₅ w₋₁₆ = σ₁ w₋₂ ⊞ w₋₇ ⊞ σ₀ w₋₁₅ ⊞ w₋₁₆
+unfoldable pub next_word : ℕ → ℕ → ℕ → ℕ → ℕ
+next_word w₋₂ w₋₇ w₋₁₅ w₋₁₆ = σ₁ w₋₂ ⊞ w₋₇ ⊞ σ₀ w₋₁₅ ⊞ w₋₁₆
 
 -- W_0 to W_{15 + n} of a block of sixteen words; the word that is added has t = n + 16
 unfoldable pub schedule : List ℕ → ℕ → List ℕ
 schedule M zero = M
 schedule M (suc n) =
     let w = schedule M n in
-    w ++ (nextWord (get_or w (n + 14) 0) (get_or w (n + 9) 0) (get_or w (n + 1) 0) (get_or w n 0) ∷ [])
+    w ++ (next_word (get_or w (n + 14) 0) (get_or w (n + 9) 0) (get_or w (n + 1) 0) (get_or w n 0) ∷ [])
 
 -- the whole schedule, W_0 to W_63
 unfoldable pub W : List ℕ → List ℕ
@@ -50,17 +50,17 @@ module _ (M : List ℕ) (sixteen : length M ≡ 16) where
       sym (stays n (48 - n) i there) ∙ ap₂ (λ (m x : ℕ). get_or (schedule M m) x 0) all same
 
   -- W_t = M_t for 0 ≤ t ≤ 15
-  pub W-first : (t : ℕ) → t < 16 → get_or (W M) t 0 ≡ get_or M t 0
+  pub W_first : (t : ℕ) → t < 16 → get_or (W M) t 0 ≡ get_or M t 0
   unfolding W schedule
-  W-first t early = stays 0 48 t early
+  W_first t early = stays 0 48 t early
 
   -- W_t = σ1(W_{t-2}) + W_{t-7} + σ0(W_{t-15}) + W_{t-16} for 16 ≤ t ≤ 63
-  pub W-next : (t : ℕ) → 16 ≤ t → t < 64
+  pub W_next : (t : ℕ) → 16 ≤ t → t < 64
       → get_or (W M) t 0 ≡ σ₁ (get_or (W M) (t - 2) 0) ⊞ get_or (W M) (t - 7) 0 ⊞ σ₀ (get_or (W M) (t - 15) 0) ⊞ get_or (W M) (t - 16) 0
-  unfolding W schedule nextWord
-  W-next t late early =
+  unfolding W schedule next_word
+  W_next t late early =
       let n = t - 16 in
-      let new : get_or (schedule M (suc n)) t 0 ≡ nextWord (get_or (schedule M n) (n + 14) 0) (get_or (schedule M n) (n + 9) 0) (get_or (schedule M n) (n + 1) 0) (get_or (schedule M n) n 0) =
+      let new : get_or (schedule M (suc n)) t 0 ≡ next_word (get_or (schedule M n) (n + 14) 0) (get_or (schedule M n) (n + 9) 0) (get_or (schedule M n) (n + 1) 0) (get_or (schedule M n) n 0) =
       get_or_at (schedule M n) _ [] 0 t (omega (arith, length-schedule n)) in
       let two = among n (n + 14) (t - 2) (omega arith) (omega arith) (omega arith) in
       let seven = among n (n + 9) (t - 7) (omega arith) (omega arith) (omega arith) in

@@ -43,23 +43,23 @@ unfoldable pub round : ℕ → ℕ → List ℕ → List ℕ
 round Kt Wt v = T₁ Kt Wt v ⊞ T₂ v ∷ a v ∷ b v ∷ c v ∷ d v ⊞ T₁ Kt Wt v ∷ e v ∷ f v ∷ g v ∷ []
 
 -- step 3: the round t, and the rounds 0 to t - 1
-unfoldable pub roundAt : List ℕ → ℕ → List ℕ → List ℕ
-roundAt w t v = round (get_or K t 0) (get_or w t 0) v
+unfoldable pub round_at : List ℕ → ℕ → List ℕ → List ℕ
+round_at w t v = round (get_or K t 0) (get_or w t 0) v
 
 unfoldable pub rounds : List ℕ → List ℕ → ℕ → List ℕ
 rounds w v zero = v
-rounds w v (suc t) = roundAt w t (rounds w v t)
+rounds w v (suc t) = round_at w t (rounds w v t)
 
 -- the n rounds from t on; `rounds-from` in proofs/ ties it to `rounds`
-unfoldable pub roundsFrom : List ℕ → ℕ → ℕ → List ℕ → List ℕ
-roundsFrom w t zero v = v
-roundsFrom w t (suc n) v = roundsFrom w (suc t) n (roundAt w t v)
+unfoldable pub rounds_from : List ℕ → ℕ → ℕ → List ℕ → List ℕ
+rounds_from w t zero v = v
+rounds_from w t (suc n) v = rounds_from w (suc t) n (round_at w t v)
 
 -- step 4: the working variables added to the hash value
-unfoldable pub addTo : List ℕ → List ℕ → List ℕ
-addTo H v =
+unfoldable pub add_to : List ℕ → List ℕ → List ℕ
+add_to H v =
     a v ⊞ a H ∷ b v ⊞ b H ∷ c v ⊞ c H ∷ d v ⊞ d H ∷ e v ⊞ e H ∷ f v ⊞ f H ∷ g v ⊞ g H ∷ h v ⊞ h H ∷ []
 
 -- steps 1 to 4 on one block: H^(i) from H^(i-1) and the block's sixteen words
-unfoldable pub nextHash : List ℕ → List ℕ → List ℕ
-nextHash H M = addTo H (rounds (W M) H 64)
+unfoldable pub next_hash : List ℕ → List ℕ → List ℕ
+next_hash H M = add_to H (rounds (W M) H 64)

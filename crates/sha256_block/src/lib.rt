@@ -1,8 +1,8 @@
 // One block of FIPS 180-4, section 6.2.2: the schedule's next word (step 1) and the rounds (steps 2 to 4),
 // with the constants of section 4.2.2.
 ghost use Rattle.std.specs.Prelude.{◌≡◌};
-ghost use Rattle.sha256_block.specs.Schedule.{nextWord};
-ghost use Rattle.sha256_block.specs.Step.{round, rounds, roundsFrom, addTo};
+ghost use Rattle.sha256_block.specs.Schedule.{next_word};
+ghost use Rattle.sha256_block.specs.Step.{round, rounds, rounds_from, add_to};
 
 use sha256_words::{add, big_sigma0, big_sigma1, ch, maj, sigma0, sigma1};
 
@@ -19,7 +19,7 @@ const K: [u32; 64] = [
 
 // The word of the schedule that follows, from the words 2, 7, 15 and 16 places before it.
 pub fn next_word(back2: u32, back7: u32, back15: u32, back16: u32) -> u32
-    ensures { result ≡ nextWord back2 back7 back15 back16 }
+    ensures { result ≡ next_word back2 back7 back15 back16 }
 {
     add(add(add(sigma1(back2), back7), sigma0(back15)), back16)
 }
@@ -48,7 +48,7 @@ fn round(v: [u32; 8], k: u32, w: u32) -> [u32; 8]
 // The rounds are written out, sixteen a function, so that the compiler sees every index: the constants then
 // become operands of the code, where a table indexed by a variable would be built on the stack.
 fn rounds_0_to_15(v: [u32; 8], w: [u32; 64]) -> [u32; 8]
-    ensures { result ≡ roundsFrom w 0 16 v }
+    ensures { result ≡ rounds_from w 0 16 v }
 {
     let k = K;
     let v1 = round(v, k[0], w[0]);
@@ -70,7 +70,7 @@ fn rounds_0_to_15(v: [u32; 8], w: [u32; 64]) -> [u32; 8]
 }
 
 fn rounds_16_to_31(v: [u32; 8], w: [u32; 64]) -> [u32; 8]
-    ensures { result ≡ roundsFrom w 16 16 v }
+    ensures { result ≡ rounds_from w 16 16 v }
 {
     let k = K;
     let v1 = round(v, k[16], w[16]);
@@ -92,7 +92,7 @@ fn rounds_16_to_31(v: [u32; 8], w: [u32; 64]) -> [u32; 8]
 }
 
 fn rounds_32_to_47(v: [u32; 8], w: [u32; 64]) -> [u32; 8]
-    ensures { result ≡ roundsFrom w 32 16 v }
+    ensures { result ≡ rounds_from w 32 16 v }
 {
     let k = K;
     let v1 = round(v, k[32], w[32]);
@@ -114,7 +114,7 @@ fn rounds_32_to_47(v: [u32; 8], w: [u32; 64]) -> [u32; 8]
 }
 
 fn rounds_48_to_63(v: [u32; 8], w: [u32; 64]) -> [u32; 8]
-    ensures { result ≡ roundsFrom w 48 16 v }
+    ensures { result ≡ rounds_from w 48 16 v }
 {
     let k = K;
     let v1 = round(v, k[48], w[48]);
@@ -147,7 +147,7 @@ fn rounds(h: [u32; 8], w: [u32; 64]) -> [u32; 8]
 
 // The block step: the next hash value, from the last and the schedule of the block.
 pub fn next_hash(h: [u32; 8], w: [u32; 64]) -> [u32; 8]
-    ensures { result ≡ addTo h (rounds w h 64) }
+    ensures { result ≡ add_to h (rounds w h 64) }
 {
     let v = rounds(h, w);
     [

@@ -14,107 +14,107 @@ use Rattle.numbers.proofs.Testing.{failed, passed}
 use Rattle.refusals.specs.declared.Refusal.{Refusal}
 use Rattle.refusals.specs.declared.Refusal.TheVariants.{Authenticator, Current, Total}
 use Rattle.racks.specs.declared.Rack.{Rack}
-use Rattle.racks.specs.Racks.{rackAt}
-use Rattle.racks.specs.Layout.{rackSize, rackOf, state_of}
-use Rattle.racks.specs.Rule.{goodRack, goodState}
-use Rattle.racks.specs.Figures.{percent, totalStored}
-use Rattle.racks.proofs.StatePlaces.{rackAt-stateOf}
-use Rattle.racks.proofs.StateRule.{good-at}
-use Rattle.rules.specs.Ready.{racksIn, stateIn}
+use Rattle.racks.specs.Racks.{rack_at}
+use Rattle.racks.specs.Layout.{rack_size, rack_of, state_of}
+use Rattle.racks.specs.Rule.{good_rack, good_state}
+use Rattle.racks.specs.Figures.{percent, total_stored}
+use Rattle.racks.proofs.StatePlaces.{rack_at-state_of}
+use Rattle.racks.proofs.StateRule.{good_at}
+use Rattle.rules.specs.Ready.{racks_in, state_in}
 use Rattle.records.specs.Form.{Form}
 use Rattle.records.specs.declared.Tested.{Tested}
 use Rattle.records.specs.declared.Tested.TheVariants.{Passed, Refused}
-use Rattle.records.specs.Page.{pageSummary, pageKey}
-use Rattle.records.specs.Record.{stateSize, stateBytes, summary, authenticator, state}
+use Rattle.records.specs.Page.{page_summary, page_key}
+use Rattle.records.specs.Record.{state_size, state_bytes, summary, authenticator, state}
 use Rattle.hmac.specs.declared.Prepared.{Prepared}
-use Rattle.hmac.specs.Preparation.{preparedOf}
-use Rattle.bindings.specs.Sealing.{ownAuthenticator}
-use Rattle.bindings.proofs.Seals.{length-state}
-use Rattle.offers.specs.Offers.{lookedAt, PassedLook}
-use Rattle.offers.proofs.Authenticators.{valid-prepared}
-use Rattle.offers.proofs.Passing.{looked, looked-length, looked-good}
+use Rattle.hmac.specs.Preparation.{prepared_of}
+use Rattle.bindings.specs.Sealing.{own_authenticator}
+use Rattle.bindings.proofs.Seals.{length_state}
+use Rattle.offers.specs.Offers.{looked_at, PassedLook}
+use Rattle.offers.proofs.Authenticators.{valid_prepared}
+use Rattle.offers.proofs.Passing.{looked, looked-length, looked_good}
 use Rattle.answers.specs.Hashing.{valid}
-use Rattle.answers.specs.Judging.{judged, shown, viewVerdict}
-use Rattle.answers.specs.Answers.{Viewed, viewedBy, viewed}
-use Rattle.answers.specs.Edition.{figuresOf, design}
+use Rattle.answers.specs.Judging.{judged, shown, view_verdict}
+use Rattle.answers.specs.Answers.{Viewed, viewed_by, viewed}
+use Rattle.answers.specs.Edition.{figures_of, design}
 use Rattle.views.specs.declared.ViewAnswer.TheVariants.{Seen, Refused as RefusedView}
-use Rattle.views.specs.Told.{toldView}
-use Rattle.views.specs.Seen.{seenIn}
+use Rattle.views.specs.Told.{told_view}
+use Rattle.views.specs.Seen.{seen_in}
 
 -- what the definition of view says past test 8
-shown_by : (f : Form) (l : List ℕ) (rack : ℕ) (b : Bool) → ltb (totalStored (state_of f.racks l)) (256 ^ 4) ≡ b
-    → viewedBy (design f) rack (shown (design f) l rack) ≡ seenIn (state_of f.racks l) rack
+shown_by : (f : Form) (l : List ℕ) (rack : ℕ) (b : Bool) → ltb (total_stored (state_of f.racks l)) (256 ^ 4) ≡ b
+    → viewed_by (design f) rack (shown (design f) l rack) ≡ seen_in (state_of f.racks l) rack
 shown_by f l rack true e = rw e refl
 shown_by f l rack false e = rw e refl
 
-shown-is : (f : Form) (l : List ℕ) (rack : ℕ) → viewedBy (design f) rack (shown (design f) l rack) ≡ seenIn (state_of f.racks l) rack
-shown-is f l rack = shown_by f l rack _ refl
+shown_is : (f : Form) (l : List ℕ) (rack : ℕ) → viewed_by (design f) rack (shown (design f) l rack) ≡ seen_in (state_of f.racks l) rack
+shown_is f l rack = shown_by f l rack _ refl
 
 -- ---- tests 1 to 8
 
 -- tests 1 to 6 find t
-module _ (f : Form) (page l : List ℕ) (rack : ℕ) {t : Tested} (test : t ≡ lookedAt f (length page) l rack) where
-  viewed_by : viewedBy (design f) rack (judged t (valid (design f) page l) (same (summary f l) (pageSummary page)) (shown (design f) (stateBytes f l) rack))
+module _ (f : Form) (page l : List ℕ) (rack : ℕ) {t : Tested} (test : t ≡ looked_at f (length page) l rack) where
+  viewed_by_lem : viewed_by (design f) rack (judged t (valid (design f) page l) (same (summary f l) (page_summary page)) (shown (design f) (state_bytes f l) rack))
       ≡ viewed (design f) page l rack
-  unfolding viewed viewVerdict
-  viewed_by = ap (λ (x : Tested). viewedBy (design f) rack (judged x (valid (design f) page l) (same (summary f l) (pageSummary page)) (shown (design f) (stateBytes f l) rack))) test
+  unfolding viewed view_verdict
+  viewed_by_lem = ap (λ (x : Tested). viewed_by (design f) rack (judged x (valid (design f) page l) (same (summary f l) (page_summary page)) (shown (design f) (state_bytes f l) rack))) test
 
-  pub view-early : (r : Refusal) → t ≡ Refused r → toldView (RefusedView r) ≡ viewed (design f) page l rack
-  view-early r found = rw found at viewed_by
+  pub view_early : (r : Refusal) → t ≡ Refused r → told_view (RefusedView r) ≡ viewed (design f) page l rack
+  view_early r found = rw found at viewed_by_lem
 
   -- they pass
   module _ (past : t ≡ Passed) where
-    pub view-looked : PassedLook f (length page) l rack
-    view-looked = looked f (length page) l rack (sym test ∙ past)
+    pub view_looked : PassedLook f (length page) l rack
+    view_looked = looked f (length page) l rack (sym test ∙ past)
 
     -- r is what test 7 finds under the page's key
-    module _ {key : Prepared} (prepared : key ≡ preparedOf (pageKey page)) {r : Bool} (seven : r ≡ same (authenticator f l) (ownAuthenticator f key l)) where
-      valid-is : r ≡ valid (design f) page l
-      valid-is = valid-prepared f page key prepared l r seven
+    module _ {key : Prepared} (prepared : key ≡ prepared_of (page_key page)) {r : Bool} (seven : r ≡ same (authenticator f l) (own_authenticator f key l)) where
+      valid_is : r ≡ valid (design f) page l
+      valid_is = valid_prepared f page key prepared l r seven
 
-      pub view-forged : not r ≡ true → toldView (RefusedView Authenticator) ≡ viewed (design f) page l rack
-      view-forged fails = rw (past, failed r _ valid-is fails) at viewed_by
+      pub view_forged : not r ≡ true → told_view (RefusedView Authenticator) ≡ viewed (design f) page l rack
+      view_forged fails = rw (past, failed r _ valid_is fails) at viewed_by_lem
 
       -- s is what test 8 finds
-      module _ (ok : not r ≡ false) {s : Bool} (eight : s ≡ same (summary f l) (pageSummary page)) where
-        pub view-stale : not s ≡ true → toldView (RefusedView Current) ≡ viewed (design f) page l rack
-        view-stale fails = rw (past, passed r _ valid-is ok, failed s _ eight fails) at viewed_by
+      module _ (ok : not r ≡ false) {s : Bool} (eight : s ≡ same (summary f l) (page_summary page)) where
+        pub view_stale : not s ≡ true → told_view (RefusedView Current) ≡ viewed (design f) page l rack
+        view_stale fails = rw (past, passed r _ valid_is ok, failed s _ eight fails) at viewed_by_lem
 
-        pub view-current : {x : Viewed} → not s ≡ false → x ≡ seenIn (state f l) rack → x ≡ viewed (design f) page l rack
-        view-current holds is = is ∙ sym (shown-is f (stateBytes f l) rack) ∙ (rw (past, passed r _ valid-is ok, passed s _ eight holds) at viewed_by)
+        pub view_current : {x : Viewed} → not s ≡ false → x ≡ seen_in (state f l) rack → x ≡ viewed (design f) page l rack
+        view_current holds is = is ∙ sym (shown_is f (state_bytes f l) rack) ∙ (rw (past, passed r _ valid_is ok, passed s _ eight holds) at viewed_by_lem)
 
 -- ---- test 12 and the figures
 
 module _ (n : ℕ) (l : List ℕ) (rack : ℕ) where
-  by_total : (b : Bool) → ltb (totalStored (state_of n l)) (256 ^ 4) ≡ b
-      → seenIn (state_of n l) rack ≡ cond b record { number = 0; figures = figuresOf (state_of n l) rack } (toldView (RefusedView Total))
+  by_total : (b : Bool) → ltb (total_stored (state_of n l)) (256 ^ 4) ≡ b
+      → seen_in (state_of n l) rack ≡ cond b record { number = 0; figures = figures_of (state_of n l) rack } (told_view (RefusedView Total))
   by_total b e = rw e refl
 
-  pub view-over : (total : ℕ) → total ≡ totalStored (state_of n l) → 0xFFFF_FFFF < total → toldView (RefusedView Total) ≡ seenIn (state_of n l) rack
-  view-over total is over = sym (by_total false (le-ltb (totalStored (state_of n l)) (256 ^ 4) (omega arith)))
+  pub view_over : (total : ℕ) → total ≡ total_stored (state_of n l) → 0xFFFF_FFFF < total → told_view (RefusedView Total) ≡ seen_in (state_of n l) rack
+  view_over total is over = sym (by_total false (le-ltb (total_stored (state_of n l)) (256 ^ 4) (omega arith)))
 
-  pub view-seen : (total full : ℕ) (r : Rack) → total ≡ totalStored (state_of n l) → total ≤ 0xFFFF_FFFF → r ≡ rackOf (part (rack * rackSize) rackSize l) → rack < n → full ≡ percent r
-      → toldView (Seen r.stored r.capacity full total) ≡ seenIn (state_of n l) rack
-  view-seen total full r is fits reads inside share =
-      let at : r ≡ rackAt (state_of n l) rack = reads ∙ sym (rackAt-stateOf n l rack inside) in
-      let p : full ≡ percent (rackAt (state_of n l) rack) = share ∙ ap percent at in
-      rw (by_total true (lt-ltb (totalStored (state_of n l)) (256 ^ 4) (omega arith)), is, p, at) refl
+  pub view_seen : (total full : ℕ) (r : Rack) → total ≡ total_stored (state_of n l) → total ≤ 0xFFFF_FFFF → r ≡ rack_of (part (rack * rack_size) rack_size l) → rack < n → full ≡ percent r
+      → told_view (Seen r.stored r.capacity full total) ≡ seen_in (state_of n l) rack
+  view_seen total full r is fits reads inside share =
+      let at : r ≡ rack_at (state_of n l) rack = reads ∙ sym (rack_at-state_of n l rack inside) in
+      let p : full ≡ percent (rack_at (state_of n l) rack) = share ∙ ap percent at in
+      rw (by_total true (lt-ltb (total_stored (state_of n l)) (256 ^ 4) (omega arith)), is, p, at) refl
 
-  pub seen-good : (r : Rack) → goodState (state_of n l) ≡ true → r ≡ rackOf (part (rack * rackSize) rackSize l) → rack < n → goodRack r ≡ true
-  seen-good r good reads inside = rw (reads, ← rackAt-stateOf n l rack inside) (good-at (state_of n l) rack good)
+  pub seen_good : (r : Rack) → good_state (state_of n l) ≡ true → r ≡ rack_of (part (rack * rack_size) rack_size l) → rack < n → good_rack r ≡ true
+  seen_good r good reads inside = rw (reads, ← rack_at-state_of n l rack inside) (good_at (state_of n l) rack good)
 
 -- ---- what test 12 needs, of the state's bytes in a record
 
-module _ (f : Form) (page : ℕ) (l : List ℕ) (rack : ℕ) (st : List ℕ) (o : PassedLook f page l rack) (is : st ≡ stateBytes f l) where
-  state-length : length st ≡ stateSize f
-  state-length = ap length is ∙ length-state f l (omega (arith, looked-length f page l rack o))
+module _ (f : Form) (page : ℕ) (l : List ℕ) (rack : ℕ) (st : List ℕ) (o : PassedLook f page l rack) (is : st ≡ state_bytes f l) where
+  state_length : length st ≡ state_size f
+  state_length = ap length is ∙ length_state f l (omega (arith, looked-length f page l rack o))
 
-  state-racks : racksIn st ≡ f.racks
-  state-racks = ap (λ (m : ℕ). m / rackSize) state-length ∙ mul-div_cancel f.racks (lit< tt)
+  state_racks : racks_in st ≡ f.racks
+  state_racks = ap (λ (m : ℕ). m / rack_size) state_length ∙ mul-div_cancel f.racks (lit< tt)
 
-  pub state-ready : stateSize f ≤ 65535 → (length st ≤ 65535) × ((goodState (stateIn st) ≡ true) × (rack < racksIn st))
-  state-ready short = (rw state-length short, (rw (state-racks, is) (looked-good f page l rack o), rw state-racks o.inside))
+  pub state_ready : state_size f ≤ 65535 → (length st ≤ 65535) × ((good_state (state_in st) ≡ true) × (rack < racks_in st))
+  state_ready short = (rw state_length short, (rw (state_racks, is) (looked_good f page l rack o), rw state_racks o.inside))
 
   -- what is shown of the bytes is shown of the record's state
-  pub state-shown : (x : Viewed) → x ≡ seenIn (stateIn st) rack → x ≡ seenIn (state f l) rack
-  state-shown x e = rw (state-racks, is) at e
+  pub state_shown : (x : Viewed) → x ≡ seen_in (state_in st) rack → x ≡ seen_in (state f l) rack
+  state_shown x e = rw (state_racks, is) at e

@@ -2,11 +2,11 @@
 use Rattle.std.specs.Prelude.{ℕ, ◌^◌, cond, ltb}
 use Rattle.refusals.specs.declared.Refusal.TheVariants.{Total}
 use Rattle.racks.specs.Racks.{State}
-use Rattle.racks.specs.Figures.{totalStored}
+use Rattle.racks.specs.Figures.{total_stored}
 use Rattle.answers.specs.Answers.{Viewed}
-use Rattle.answers.specs.Edition.{figuresOf}
+use Rattle.answers.specs.Edition.{figures_of}
 use Rattle.views.specs.declared.ViewAnswer.TheVariants.{Refused}
-use Rattle.views.specs.Told.{toldView}
+use Rattle.views.specs.Told.{told_view}
 
-abbrev pub seenIn : State → ℕ → Viewed
-seenIn s rack = cond (ltb (totalStored s) (256 ^ 4)) record { number = 0; figures = figuresOf s rack } (toldView (Refused Total))
+abbrev pub seen_in : State → ℕ → Viewed
+seen_in s rack = cond (ltb (total_stored s) (256 ^ 4)) record { number = 0; figures = figures_of s rack } (told_view (Refused Total))

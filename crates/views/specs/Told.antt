@@ -3,26 +3,26 @@
 use Rattle.std.specs.Prelude.{ℕ}
 use Rattle.refusals.specs.Numbers.{number_of}
 use Rattle.answers.specs.Design.{Figures}
-use Rattle.answers.specs.Answers.{Viewed, noFigures, Resumed}
+use Rattle.answers.specs.Answers.{Viewed, no_figures, Resumed}
 use Rattle.views.specs.declared.ViewAnswer.{ViewAnswer}
 use Rattle.views.specs.declared.ViewAnswer.TheVariants.{Seen, Refused as RefusedView}
 use Rattle.views.specs.declared.Which.{Which}
 use Rattle.views.specs.declared.Which.TheVariants.{Neither, Ram, Disk}
 
 -- view: 0 and the figures, or the refusal's number and zeros
-abbrev pub viewNumberTold : ViewAnswer → ℕ
-viewNumberTold (Seen stored capacity percent total) = 0
-viewNumberTold (RefusedView r) = number_of r
+abbrev pub view_number_told : ViewAnswer → ℕ
+view_number_told (Seen stored capacity percent total) = 0
+view_number_told (RefusedView r) = number_of r
 
-abbrev pub figuresTold : ViewAnswer → Figures
-figuresTold (Seen stored capacity percent total) = record { stored = stored; capacity = capacity; percent = percent; total = total }
-figuresTold (RefusedView r) = noFigures
+abbrev pub figures_told : ViewAnswer → Figures
+figures_told (Seen stored capacity percent total) = record { stored = stored; capacity = capacity; percent = percent; total = total }
+figures_told (RefusedView r) = no_figures
 
-abbrev pub toldView : ViewAnswer → Viewed
-toldView r = record { number = viewNumberTold r; figures = figuresTold r }
+abbrev pub told_view : ViewAnswer → Viewed
+told_view r = record { number = view_number_told r; figures = figures_told r }
 
 -- resume
-abbrev pub toldWhich : Which → Resumed
-toldWhich Neither = Resumed.neither
-toldWhich Ram = Resumed.ram
-toldWhich Disk = Resumed.disk
+abbrev pub told_which : Which → Resumed
+told_which Neither = Resumed.neither
+told_which Ram = Resumed.ram
+told_which Disk = Resumed.disk

@@ -1,10 +1,10 @@
 // Resume: which of two records is current, the one in RAM first.
 ghost use Rattle.std.specs.Prelude.{◌≡◌};
 ghost use Rattle.records.specs.Form.{form_of};
-ghost use Rattle.answers.specs.Judging.{resumeVerdict};
-ghost use Rattle.answers.specs.Answers.{isGood, resumed};
+ghost use Rattle.answers.specs.Judging.{resume_verdict};
+ghost use Rattle.answers.specs.Answers.{is_good, resumed};
 ghost use Rattle.answers.specs.Edition.{design};
-ghost use Rattle.views.specs.Told.{toldWhich};
+ghost use Rattle.views.specs.Told.{told_which};
 
 use crate::Which;
 use bindings::prepared;
@@ -13,7 +13,7 @@ use records::{Form, PAGE_SIZE, Tested, test_record};
 
 // Which of the two is current; the disk one is looked at only where RAM's is not.
 pub fn choose(page: &[u8], ram: &[u8], disk: &[u8], form: Form) -> Which
-    ensures { toldWhich result ≡ resumed (design (form_of form)) page.now ram.now disk.now }
+    ensures { told_which result ≡ resumed (design (form_of form)) page.now ram.now disk.now }
 {
     if is_current(page, ram, form) {
         return Which::Ram;
@@ -26,7 +26,7 @@ pub fn choose(page: &[u8], ram: &[u8], disk: &[u8], form: Form) -> Which
 
 // Tests 1, 3, 4, 5 and 7, and the record's summary is the page's.
 fn is_current(page: &[u8], record: &[u8], form: Form) -> bool
-    ensures { result ≡ isGood (resumeVerdict (design (form_of form)) page.now «record».now) }
+    ensures { result ≡ is_good (resume_verdict (design (form_of form)) page.now «record».now) }
 {
     if page.len() != PAGE_SIZE {
         return false;

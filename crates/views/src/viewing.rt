@@ -1,12 +1,12 @@
 // View: tests 1 to 8 as they come, then the figures; nothing is written.
 ghost use Rattle.std.specs.Prelude.{◌≡◌, true, ◌≤◌, ◌<◌, length};
-ghost use Rattle.racks.specs.Rule.{goodState};
-ghost use Rattle.rules.specs.Ready.{racksIn, stateIn};
+ghost use Rattle.racks.specs.Rule.{good_state};
+ghost use Rattle.rules.specs.Ready.{racks_in, state_in};
 ghost use Rattle.records.specs.Form.{form_of};
 ghost use Rattle.answers.specs.Answers.{viewed};
 ghost use Rattle.answers.specs.Edition.{design};
-ghost use Rattle.views.specs.Told.{toldView};
-ghost use Rattle.views.specs.Seen.{seenIn};
+ghost use Rattle.views.specs.Told.{told_view};
+ghost use Rattle.views.specs.Seen.{seen_in};
 
 use crate::ViewAnswer;
 use bindings::prepared;
@@ -17,7 +17,7 @@ use refusals::Refusal;
 
 // The figures of a rack and the total, of a record that is current.
 pub fn view(page: &[u8], record: &[u8], rack: usize, form: Form) -> ViewAnswer
-    ensures { toldView result ≡ viewed (design (form_of form)) page.now «record».now rack }
+    ensures { told_view result ≡ viewed (design (form_of form)) page.now «record».now rack }
 {
     match test_look(page.len(), record, rack, form) {
         Tested::Refused(r) => ViewAnswer::Refused(r),
@@ -37,9 +37,9 @@ pub fn view(page: &[u8], record: &[u8], rack: usize, form: Form) -> ViewAnswer
 // Test 12 and the figures of a state.
 fn figures(state: &[u8], rack: usize) -> ViewAnswer
     requires state_len_bound { length state.now ≤ 65535 }
-    requires state_value { goodState (stateIn state.now) ≡ true }
-    requires rack_bound { rack < racksIn state.now }
-    ensures { toldView result ≡ seenIn (stateIn state.now) rack }
+    requires state_value { good_state (state_in state.now) ≡ true }
+    requires rack_bound { rack < racks_in state.now }
+    ensures { told_view result ≡ seen_in (state_in state.now) rack }
 {
     let total = total_stored(state);
     if 0xFFFF_FFFF < total {

@@ -1,11 +1,11 @@
 -- `next_summary` hashes the tag, the summary and the request in pieces. Assumes nothing.
-use Rattle.bindings.specs.Hashed.{nextSummary}
+use Rattle.bindings.specs.Hashed.{next_summary}
 use borrow.Author.Rules.{rules}
 use Rattle.bindings.proofs.next_summary.Statement.{statement}
 use Rattle.bindings.proofs.next_summary.Tie as tie
 
 returns : tie.Need-returns
-unfolding nextSummary
+unfolding next_summary
 returns c = c.sha256.ensures
 
 pub next-summary-spec : {M : Type 1} → statement M

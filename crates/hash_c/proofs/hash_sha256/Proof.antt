@@ -1,25 +1,25 @@
 -- `hash_sha256` gives the outcome of each case. Assumes nothing.
-use Rattle.hash_c.specs.Outcome.{hashOutcome}
+use Rattle.hash_c.specs.Outcome.{hash_outcome}
 use Rattle.numbers.specs.Parts.{over}
 use Rattle.sha256.specs.Computation.{sha256}
 use mathlib.Core.List.{List, ◌++◌}
 use Prim.Native.Nat.{ℕ}
 use mathlib.Core.Path.{ap, ◌∙◌}
 use borrow.Author.Tests.{leb-true}
-use Rattle.hash_c.proofs.Outcomes.{no-bounds, no_room, written}
+use Rattle.hash_c.proofs.Outcomes.{no_bounds, no_room, written}
 use Rattle.numbers.proofs.Testing.{failed, passed}
 use borrow.Author.Rules.{rules}
 use Rattle.hash_c.proofs.hash_sha256.Statement.{statement}
 use Rattle.hash_c.proofs.hash_sha256.Tie as tie
 
 returns : tie.Need-returns
-unfolding hashOutcome
+unfolding hash_outcome
 returns c =
     let s = c.before.before.before.before.before.before.args in
-    no-bounds _ (sha256 (s.a.now ++ s.b.now ++ s.c.now)) s.out.now (failed _ _ c.before.within.ensures c.if1.true)
+    no_bounds _ (sha256 (s.a.now ++ s.b.now ++ s.c.now)) s.out.now (failed _ _ c.before.within.ensures c.if1.true)
 
 returns-2 : tie.Need-returns-2
-unfolding hashOutcome
+unfolding hash_outcome
 returns-2 c =
     let s = c.before.before.before.before.before.before.before.args in
     no_room _ (sha256 (s.a.now ++ s.b.now ++ s.c.now)) s.out.now (passed _ _ c.before.before.within.ensures c.before.if1.false) c.if2.true
@@ -28,7 +28,7 @@ sha256-requires : tie.Need-sha256-requires
 sha256-requires c κs = leb-true _ _ (passed _ _ c.before.before.within.ensures c.before.if1.false)
 
 returns-3 : tie.Need-returns-3
-unfolding hashOutcome
+unfolding hash_outcome
 returns-3 c =
     let s = c.before.before.before.before.before.before.before.before.before.before.before.before.before.args in
     written _ (sha256 (s.a.now ++ s.b.now ++ s.c.now)) s.out.now _ (passed _ _ c.before.before.before.before.before.before.before.before.within.ensures c.before.before.before.before.before.before.before.if1.false) c.before.before.before.before.before.before.if2.false

@@ -1,12 +1,12 @@
 -- `after_pad` hashes the key's block under a pad. The invariant: the key's first i bytes are XORed, and the rest is the pad. Assumes nothing.
 use borrow.Author.Rules.{rules}
-use Rattle.hmac.proofs.Pads.{xored, key-block, byte_more, all-bytes}
+use Rattle.hmac.proofs.Pads.{xored, key_block, byte_more, all_bytes}
 use native.Mathlib.Omega.{arith}
 use mathlib.Core.List.{List, ◌++◌}
 use lib.ListN.{length, take, replicate, length-set}
 use mathlib.Core.Path.{◌≡◌, ap₂, ◌∙◌, sym}
 use Prim.Native.Nat.{ℕ, ◌≤◌, ◌-◌}
-use Rattle.sha256_block.specs.Step.{nextHash}
+use Rattle.sha256_block.specs.Step.{next_hash}
 use Rattle.sha256.specs.Parsing.{block}
 use Rattle.hmac.specs.Preparation.{after_block}
 use Rattle.hmac.proofs.after_pad.Statement.{statement}
@@ -31,8 +31,8 @@ returns c =
     let s = o.args in
     let at = c.before.before.before.before.loop in
     let end : at.i ≡ length s.key.now = omega arith in
-    let made = at.invariant.2 ∙ all-bytes s.key.now 64 s.pad at.i end ∙ sym (key-block s.key.now 64 s.pad o.requires) in
-    c.absorb.ensures ∙ ap₂ (λ (h l : List ℕ). nextHash h (block l 0)) c.before.before.initial.ensures made
+    let made = at.invariant.2 ∙ all_bytes s.key.now 64 s.pad at.i end ∙ sym (key_block s.key.now 64 s.pad o.requires) in
+    c.absorb.ensures ∙ ap₂ (λ (h l : List ℕ). next_hash h (block l 0)) c.before.before.initial.ensures made
 
 pub after-pad-spec : {M : Type 1} → statement M
 after-pad-spec =

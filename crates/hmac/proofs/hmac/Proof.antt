@@ -4,7 +4,7 @@ use Rattle.sha256.specs.Computation.{sha256}
 use Prim.Native.Nat.{ℕ}
 use mathlib.Core.List.{List, ◌++◌}
 use mathlib.Core.Path.{ap, ◌∙◌}
-use Rattle.hmac.proofs.Macs.{hmac-long, no_more}
+use Rattle.hmac.proofs.Macs.{hmac_long, no_more}
 use borrow.Author.Rules.{rules}
 use Rattle.hmac.proofs.hmac.Statement.{statement}
 use Rattle.hmac.proofs.hmac.Tie as tie
@@ -13,9 +13,9 @@ returns : tie.Need-returns
 returns c =
     let s = c.before.before.before.before.before.before.before.before.before.args in
     let m = s.a.now ++ s.b.now in
-    c.hmac-short.ensures
+    c.hmac_short.ensures
     ∙ ap (λ (k : List ℕ). hmac k m) (c.before.before.sha256.ensures ∙ ap sha256 (no_more s.key.now))
-    ∙ hmac-long s.key.now m c.before.before.before.before.before.if1.true
+    ∙ hmac_long s.key.now m c.before.before.before.before.before.if1.true
 
 pub hmac-spec : {M : Type 1} → statement M
 hmac-spec =

@@ -1,8 +1,8 @@
 -- `hmac_short` hashes behind the inner block, and then behind the outer one, which is FIPS 198-1's MAC. Assumes nothing.
-use Rattle.sha256.specs.Continued.{sha256After}
+use Rattle.sha256.specs.Continued.{sha256_after}
 use mathlib.Core.List.{◌++◌, append-nil}
 use mathlib.Core.Path.{ap, ◌∙◌}
-use Rattle.hmac.proofs.Macs.{hmac-short, no_more}
+use Rattle.hmac.proofs.Macs.{hmac_short, no_more}
 use borrow.Author.Rules.{rules}
 use Rattle.hmac.proofs.hmac_short.Statement.{statement}
 use Rattle.hmac.proofs.hmac_short.Tie as tie
@@ -12,12 +12,12 @@ returns c =
     let o = c.before.before.before.before.before.before.before.before.before.before.before in
     let s = o.args in
     let m = s.a.now ++ s.b.now in
-    let d = c.before.before.before.before.before.sha256-after.result in
-    hmac-short s.key.now m _ _ _ _ o.requires.0
+    let d = c.before.before.before.before.before.sha256_after_lem.result in
+    hmac_short s.key.now m _ _ _ _ o.requires.0
     c.before.before.before.before.before.before.before.after-pad.ensures
-    (c.before.before.before.before.before.sha256-after.ensures ∙ ap (sha256After _ 1) (append-nil m))
+    (c.before.before.before.before.before.sha256_after_lem.ensures ∙ ap (sha256_after _ 1) (append-nil m))
     c.before.before.before.before.after-pad2.ensures
-    (c.sha256-after2.ensures ∙ ap (sha256After _ 1) (no_more d))
+    (c.sha256-after2.ensures ∙ ap (sha256_after _ 1) (no_more d))
 
 pub hmac-short-spec : {M : Type 1} → statement M
 hmac-short-spec =

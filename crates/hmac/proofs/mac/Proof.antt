@@ -1,6 +1,6 @@
 -- `mac` goes on behind the inner block with the message, and behind the outer one with that digest. Assumes nothing.
-use Rattle.hmac.specs.Preparation.{macOf}
-use Rattle.sha256.specs.Continued.{sha256After}
+use Rattle.hmac.specs.Preparation.{mac_of}
+use Rattle.sha256.specs.Continued.{sha256_after}
 use mathlib.Core.List.{append-nil}
 use mathlib.Core.Path.{ap, ◌∙◌}
 use borrow.Author.Rules.{rules}
@@ -8,11 +8,11 @@ use Rattle.hmac.proofs.mac.Statement.{statement}
 use Rattle.hmac.proofs.mac.Tie as tie
 
 returns : tie.Need-returns
-unfolding macOf
+unfolding mac_of
 returns c =
     let first = c.before.before.before in
     let s = first.before.before.before.args in
-    c.behind2.ensures ∙ ap (sha256After s.outer.now 1) (append-nil first.behind.result ∙ first.behind.ensures)
+    c.behind2.ensures ∙ ap (sha256_after s.outer.now 1) (append-nil first.behind.result ∙ first.behind.ensures)
 
 pub mac-spec : {M : Type 1} → statement M
 mac-spec =

@@ -1,6 +1,6 @@
 -- The three tests in their order, and then the first record. Assumes nothing.
 use native.Mathlib.Omega.{arith}
-use Rattle.opens.proofs.Cases.{open-1, open-2, open-13, open-0}
+use Rattle.opens.proofs.Cases.{open_1, open_2, open_13, open_0}
 use borrow.Author.Rules.{rules}
 use Rattle.opens.proofs.open.Statement.{statement}
 use Rattle.opens.proofs.open.Tie as tie
@@ -8,25 +8,25 @@ use Rattle.opens.proofs.open.Tie as tie
 returns : tie.Need-returns
 returns c =
     let s = c.before.before.before.args in
-    open-1 s.page.now s.answer.now c.if1.true
+    open_1 s.page.now s.answer.now c.if1.true
 
 returns-2 : tie.Need-returns-2
 returns-2 c =
     let s = c.before.before.before.before.before.args in
-    open-2 s.page.now s.answer.now c.before.before.if1.false (omega (arith, c.if2.true))
+    open_2 s.page.now s.answer.now c.before.before.if1.false (omega (arith, c.if2.true))
 
 returns-3 : tie.Need-returns-3
 returns-3 c =
     let i = c.before.before.before in
     let s = i.before.before.before.before.before.args in
-    open-13 s.page.now s.answer.now i.before.before.if1.false (omega (arith, i.if2.false)) _ _ c.before.before.page-summary.ensures c.before.all-zero.ensures c.if3.true
+    open_13 s.page.now s.answer.now i.before.before.if1.false (omega (arith, i.if2.false)) _ _ c.before.before.page_summary_lem.ensures c.before.all-zero.ensures c.if3.true
 
 returns-4 : tie.Need-returns-4
 returns-4 c =
     let t = c.before.before.before.before in
     let i = t.before.before.before in
     let s = i.before.before.before.before.before.args in
-    open-0 s.page.now s.answer.now i.before.before.if1.false (omega (arith, i.if2.false)) _ _ t.before.before.page-summary.ensures t.before.all-zero.ensures t.if3.false _ c.before.before.write-first.ensures
+    open_0 s.page.now s.answer.now i.before.before.if1.false (omega (arith, i.if2.false)) _ _ t.before.before.page_summary_lem.ensures t.before.all-zero.ensures t.if3.false _ c.before.before.write-first.ensures
 
 pub open_spec : {M : Type 1} → statement M
 open_spec =

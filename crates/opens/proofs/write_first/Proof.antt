@@ -1,8 +1,8 @@
 -- The first state and the page's summary are laid, and sealed under the page's key. Assumes nothing.
 use mathlib.Core.Path.{ap, ◌∙◌}
 use lib.ListN.{length}
-use Rattle.bindings.proofs.Seals.{length-pageSummary}
-use Rattle.opens.proofs.Cases.{first-sealed}
+use Rattle.bindings.proofs.Seals.{length-page_summary}
+use Rattle.opens.proofs.Cases.{first_sealed}
 use borrow.Author.Rules.{rules}
 use Rattle.opens.proofs.write_first.Statement.{statement}
 use Rattle.opens.proofs.write_first.Tie as tie
@@ -10,7 +10,7 @@ use Rattle.opens.proofs.write_first.Tie as tie
 lay-first-requires : tie.Need-lay-first-requires
 lay-first-requires c κs =
     let p = c.before.before.before.before.requires in
-    (p.1, ap length c.page-summary.ensures ∙ length-pageSummary _ p.0)
+    (p.1, ap length c.page_summary_lem.ensures ∙ length-page_summary _ p.0)
 
 returns : tie.Need-returns
 returns c =
@@ -18,8 +18,8 @@ returns c =
     let l = k.before.before.before in
     let h = l.before in
     let o = h.before.before.before.before in
-    let is = h.page-summary.ensures in
-    first-sealed o.args.page.now _ o.args.answer.now _ _ _ o.requires.1 (ap length is ∙ length-pageSummary _ o.requires.0) is k.prepared.ensures l.lay-first.ensures c.before.before.seal.ensures
+    let is = h.page_summary_lem.ensures in
+    first_sealed o.args.page.now _ o.args.answer.now _ _ _ o.requires.1 (ap length is ∙ length-page_summary _ o.requires.0) is k.prepared.ensures l.lay-first.ensures c.before.before.seal.ensures
 
 pub write-first-spec : {M : Type 1} → statement M
 write-first-spec =

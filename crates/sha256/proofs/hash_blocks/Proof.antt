@@ -1,6 +1,6 @@
 -- `hash_blocks` goes block by block. The invariant: the value is the standard's after i blocks. Assumes nothing.
 use borrow.Author.Rules.{rules}
-use Rattle.sha256.proofs.HashLaws.{next-value}
+use Rattle.sha256.proofs.HashLaws.{next_value}
 use Rattle.sha256.specs.Computation.{hashes}
 use Rattle.sha256.specs.Padding.{padding}
 use native.Mathlib.Omega.{arith}
@@ -23,7 +23,7 @@ loop-holds c = search rules
 loop-again : tie.Need-loop-preserved invariant-loop decreases-loop
 loop-again c =
     let at = c.before.before.before.loop in
-    (omega arith, next-value _ _ _ _ _ at.invariant.1 c.before.schedule.ensures c.next-hash.ensures)
+    (omega arith, next_value _ _ _ _ _ at.invariant.1 c.before.schedule.ensures c.next-hash.ensures)
 
 returns : tie.Need-returns invariant-loop decreases-loop
 returns c =

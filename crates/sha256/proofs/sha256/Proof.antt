@@ -1,6 +1,6 @@
 -- `sha256` is the hash continued behind no blocks. Assumes nothing.
-use Rattle.sha256.proofs.ContinuedLaws.{sha256-after}
-use Rattle.sha256.specs.Continued.{sha256After}
+use Rattle.sha256.proofs.ContinuedLaws.{sha256_after_lem}
+use Rattle.sha256.specs.Continued.{sha256_after}
 use Rattle.sha256.specs.Computation.{hashes}
 use mathlib.Core.Path.{refl, sym, ap, ◌∙◌}
 use mathlib.Core.List.{List, [], ◌++◌}
@@ -14,7 +14,7 @@ unfolding hashes
 returns c =
     let s = c.before.before.before.before.before.args in
     let m = s.a.now ++ s.b.now ++ s.c.now in
-    c.sha256-after.ensures ∙ ap (λ (v : List ℕ). sha256After v 0 m) c.before.initial.ensures ∙ sym (sha256-after [] m 0 refl)
+    c.sha256_after_lem.ensures ∙ ap (λ (v : List ℕ). sha256_after v 0 m) c.before.initial.ensures ∙ sym (sha256_after_lem [] m 0 refl)
 
 pub sha256-spec : {M : Type 1} → statement M
 sha256-spec = tie.close (tie.spec (λ c κs. search rules) (λ c κs. search rules) returns)

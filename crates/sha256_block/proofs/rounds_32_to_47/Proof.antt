@@ -1,5 +1,5 @@
 -- Sixteen rounds, one behind the other; each constant is the table's own entry. Assumes nothing.
-use Rattle.sha256_block.specs.Step.{roundAt}
+use Rattle.sha256_block.specs.Step.{round_at}
 use Rattle.sha256_block.proofs.RoundLaws.{then, none}
 use Rattle.sha256_block.specs.Constants.{K}
 use borrow.Author.Rules.{rules}
@@ -7,7 +7,7 @@ use Rattle.sha256_block.proofs.rounds_32_to_47.Statement.{statement}
 use Rattle.sha256_block.proofs.rounds_32_to_47.Tie as tie
 
 returns : tie.Need-returns
-unfolding roundAt K
+unfolding round_at K
 returns c =
     then _ _ _ _ c.before.before.before.before.before.before.before.before.before.before.before.before.before.before.before.round.ensures
     (then _ _ _ _ c.before.before.before.before.before.before.before.before.before.before.before.before.before.before.round2.ensures

@@ -1,7 +1,7 @@
 -- Sixteen rounds, one behind the other; each constant is the table's own entry. Assumes nothing.
 use mathlib.Core.Path.{◌≡◌}
 use lib.ListN.{get_or}
-use Rattle.sha256_block.specs.Step.{round, roundAt}
+use Rattle.sha256_block.specs.Step.{round, round_at}
 use Rattle.sha256_block.proofs.RoundLaws.{then, none}
 use Rattle.sha256_block.specs.Constants.{K}
 use borrow.Author.Rules.{rules}
@@ -9,7 +9,7 @@ use Rattle.sha256_block.proofs.rounds_48_to_63.Statement.{statement}
 use Rattle.sha256_block.proofs.rounds_48_to_63.Tie as tie
 
 returns : tie.Need-returns
-unfolding roundAt K
+unfolding round_at K
 returns c =
     let w = c.before.before.before.before.before.before.before.before.before.before.before.before.before.before.before.before.args.t2 in
     let last : c.round16.result ≡ round (get_or K 63 0) (get_or w 63 0) c.before.round15.result = c.round16.ensures in

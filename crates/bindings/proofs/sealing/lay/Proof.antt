@@ -1,5 +1,5 @@
 -- `lay` copies the three pieces, each behind the one before. Assumes nothing.
-use Rattle.bindings.proofs.Seals.{laid-3}
+use Rattle.bindings.proofs.Seals.{laid_3}
 use borrow.Author.Rules.{rules}
 use Rattle.bindings.proofs.sealing.lay.Statement.{statement}
 use Rattle.bindings.proofs.sealing.lay.Tie as tie
@@ -10,7 +10,7 @@ returns c =
     let second = third.before.before.before.before in
     let first = second.before.before.before.before in
     let o = first.before.before.before.before.before.before in
-    laid-3 _ _ _ o.args.answer.now _ _ _ o.requires first.copy.ensures second.copy2.ensures third.copy3.ensures
+    laid_3 _ _ _ o.args.answer.now _ _ _ o.requires first.copy.ensures second.copy2.ensures third.copy3.ensures
 
 pub lay-spec : {M : Type 1} → statement M
 lay-spec =

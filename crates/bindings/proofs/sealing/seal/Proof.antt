@@ -12,14 +12,14 @@ slice-aggregate-authenticator-of : tie.Need-slice-aggregate-authenticator-of
 slice-aggregate-authenticator-of c = sym (length-take-le _ _ (omega arith))
 
 authenticator-of-requires : tie.Need-authenticator-of-requires
-authenticator-of-requires c κs = length-take-le _ _ (omega arith) ∙ c.before.record-size.ensures
+authenticator-of-requires c κs = length-take-le _ _ (omega arith) ∙ c.before.record_size_lem.ensures
 
 returns : tie.Need-returns
 returns c =
     let a = c.before.before.before.before.before in
     let m = a.before.before in
     let o = m.before.before in
-    sealed-front (form_of o.args.form) o.args.answer.now o.requires _ _ _ _ m.record-size.ensures a.authenticator-of.ensures c.before.before.copy.ensures
+    sealed-front (form_of o.args.form) o.args.answer.now o.requires _ _ _ _ m.record_size_lem.ensures a.authenticator-of.ensures c.before.before.copy.ensures
 
 pub seal-spec : {M : Type 1} → statement M
 seal-spec =

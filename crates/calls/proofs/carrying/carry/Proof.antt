@@ -1,6 +1,6 @@
 -- `carry` lends the state where it lies in the answer, and it comes back carried on. Assumes nothing.
 use Rattle.records.specs.Form.{form_of}
-use Rattle.calls.proofs.Writing.{lent-state, carried}
+use Rattle.calls.proofs.Writing.{lent_state, carried}
 use borrow.Author.Rules.{rules}
 use Rattle.calls.proofs.carrying.carry.Statement.{statement}
 use Rattle.calls.proofs.carrying.carry.Tie as tie
@@ -9,7 +9,7 @@ carry-out-requires : tie.Need-carry-out-requires
 carry-out-requires c κs =
     let e = c.before in
     let o = e.before.before in
-    rw (e.state-end.ensures.0, lent-state (form_of o.args.form) o.args.q o.args.answer.now o.requires.0) o.requires.1
+    rw (e.state-end.ensures.0, lent_state (form_of o.args.form) o.args.q o.args.answer.now o.requires.0) o.requires.1
 
 returns : tie.Need-returns
 returns c =

@@ -3,7 +3,7 @@ use mathlib.Core.Path.{refl, ap}
 use lib.ListN.{length}
 use native.Mathlib.Omega.{arith}
 use Rattle.records.specs.Form.{form_of}
-use Rattle.bindings.proofs.Seals.{length-state}
+use Rattle.bindings.proofs.Seals.{length_state}
 use borrow.Author.Rules.{rules}
 use Rattle.calls.proofs.carrying.lay_state.Statement.{statement}
 use Rattle.calls.proofs.carrying.lay_state.Tie as tie
@@ -11,7 +11,7 @@ use Rattle.calls.proofs.carrying.lay_state.Tie as tie
 lay-requires : tie.Need-lay-requires
 lay-requires c κs =
     let o = c.before.before.before.before.before.before.before in
-    omega (arith, ap length c.state-part.ensures, length-state (form_of o.args.form) o.args.«record».now (omega arith))
+    omega (arith, ap length c.state-part.ensures, length_state (form_of o.args.form) o.args.«record».now (omega arith))
 
 returns : tie.Need-returns
 returns c =

@@ -4,7 +4,7 @@ use native.Mathlib.Omega.{arith}
 use Rattle.records.specs.Form.{form_of}
 use lib.ListN.{length}
 use Rattle.offers.specs.Offers.{PassedOffer}
-use Rattle.offers.proofs.Passing.{offered-length, offered-request, offered-range, offered-named}
+use Rattle.offers.proofs.Passing.{offered-length, offered_request, offered-range, offered-named}
 use Rattle.calls.proofs.CarryingOut.{ready}
 use Rattle.calls.proofs.Answering.{performs, early, asked, forged, stale, barred, done}
 use borrow.Author.Rules.{rules}
@@ -65,7 +65,7 @@ write-performed-requires c κs =
     let s = t.before.before.before.before.before.args in
     let o = offer f in
     let long = offered-length _ _ _ _ _ _ o in
-    (o.size, (offered-request _ _ _ _ _ _ o, (o.answer, (long, ready (form_of s.form) s.«record».now _ (omega (arith, long)) (offered-range _ _ _ _ _ _ o) (sym j.judge-record.ensures ∙ c.before.before.before.before.before.enum_told.given.1)))))
+    (o.size, (offered_request _ _ _ _ _ _ o, (o.answer, (long, ready (form_of s.form) s.«record».now _ (omega (arith, long)) (offered-range _ _ _ _ _ _ o) (sym j.judge-record.ensures ∙ c.before.before.before.before.before.enum_told.given.1)))))
 
 returns-3 : tie.Need-returns-3
 returns-3 c =

@@ -1,8 +1,8 @@
 -- `write_performed` lays the record's pieces, carries the request out there, seals what stands there, and moves the page. Assumes nothing.
 use Rattle.records.specs.Form.{form_of}
-use Rattle.bindings.proofs.Hashes.{length-nextSummary}
-use Rattle.calls.specs.Next.{movedOn}
-use Rattle.calls.proofs.Writing.{laid_as, ready-there, written}
+use Rattle.bindings.proofs.Hashes.{length-next_summary}
+use Rattle.calls.specs.Next.{moved_on}
+use Rattle.calls.proofs.Writing.{laid_as, ready_there, written}
 use borrow.Author.Rules.{rules}
 use Rattle.calls.proofs.performing.write_performed.Statement.{statement}
 use Rattle.calls.proofs.performing.write_performed.Tie as tie
@@ -13,7 +13,7 @@ carry-requires c κs =
     let o = l.before.before.before.before.before.before in
     let s = o.args in
     let p = o.requires.1.1 in
-    ready-there (form_of s.form) s.«record».now (movedOn (form_of s.form) s.«record».now s.request.now) s.answer.now s.q p.0 p.1.0 (length-nextSummary _ _) _ l.lay-performed.ensures p.1.1
+    ready_there (form_of s.form) s.«record».now (moved_on (form_of s.form) s.«record».now s.request.now) s.answer.now s.q p.0 p.1.0 (length-next_summary _ _) _ l.lay-performed.ensures p.1.1
 
 returns : tie.Need-returns
 returns c =
@@ -23,7 +23,7 @@ returns c =
     let o = l.before.before.before.before.before.before in
     let s = o.args in
     let p = o.requires.1.1 in
-    let done = written (form_of s.form) s.«record».now (movedOn (form_of s.form) s.«record».now s.request.now) s.answer.now s.q p.0 p.1.0 (length-nextSummary _ _) _ l.lay-performed.ensures _ _ _ _ k.carry.ensures e.seal.ensures in
+    let done = written (form_of s.form) s.«record».now (moved_on (form_of s.form) s.«record».now s.request.now) s.answer.now s.q p.0 p.1.0 (length-next_summary _ _) _ l.lay-performed.ensures _ _ _ _ k.carry.ensures e.seal.ensures in
     (laid_as _ _ s.page.now _ c.before.before.move-page.ensures done.1.1, (done.0, done.1.0))
 
 pub write-performed-spec : {M : Type 1} → statement M

@@ -4,7 +4,7 @@ use native.Mathlib.Omega.{arith}
 use Rattle.records.specs.Form.{form_of}
 use lib.ListN.{length}
 use Rattle.offers.specs.Offers.{PassedOffer}
-use Rattle.offers.proofs.Passing.{offered-length, offered-request, offered-range, offered-named}
+use Rattle.offers.proofs.Passing.{offered-length, offered_request, offered-range, offered-named}
 use Rattle.calls.proofs.CarryingOut.{ready}
 use Rattle.calls.proofs.Answering.{repeats, early, asked, forged, stale, barred, done, follows}
 use borrow.Author.Rules.{rules}
@@ -40,7 +40,7 @@ leads-to-requires : tie.Need-leads-to-requires
 leads-to-requires c κs =
     let f = c.before.before.before.before.before.before.before in
     let o = offer f in
-    (o.size, (offered-length _ _ _ _ _ _ o, offered-request _ _ _ _ _ _ o))
+    (o.size, (offered-length _ _ _ _ _ _ o, offered_request _ _ _ _ _ _ o))
 
 returns-2 : tie.Need-returns-2
 returns-2 c =

@@ -1,16 +1,16 @@
 -- The number of perform's answer. Assumes nothing.
 use mathlib.Core.Path.{refl}
 use Rattle.calls.specs.declared.PerformAnswer.TheVariants.{Done, Refused}
-use Rattle.keeper.proofs.Faces.{performed-to-c}
+use Rattle.keeper.proofs.Faces.{performed_to_c}
 use borrow.Author.Rules.{rules}
 use Rattle.keeper.proofs.c.keeper_perform.Statement.{statement}
 use Rattle.keeper.proofs.c.keeper_perform.Tie as tie
 
 returns : tie.Need-returns
-returns c = performed-to-c _ (Done _) 0 _ _ _ c.before.before.before.before.before.before.perform.ensures c.enum_told.given.1 refl
+returns c = performed_to_c _ (Done _) 0 _ _ _ c.before.before.before.before.before.before.perform.ensures c.enum_told.given.1 refl
 
 returns-2 : tie.Need-returns-2
-returns-2 c = performed-to-c _ (Refused _) _ _ _ _ c.before.before.before.before.before.before.before.before.perform.ensures c.before.before.r.given.1 c.number.ensures
+returns-2 c = performed_to_c _ (Refused _) _ _ _ _ c.before.before.before.before.before.before.before.before.perform.ensures c.before.before.r.given.1 c.number.ensures
 
 pub keeper-perform-spec : {M : Type 1} → statement M
 keeper-perform-spec =

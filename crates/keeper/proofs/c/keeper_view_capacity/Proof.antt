@@ -2,16 +2,16 @@
 use mathlib.Core.Path.{refl}
 use Rattle.answers.specs.Answers.{Viewed}
 use Rattle.views.specs.declared.ViewAnswer.TheVariants.{Seen, Refused}
-use Rattle.keeper.proofs.Faces.{viewed-to-c}
+use Rattle.keeper.proofs.Faces.{viewed_to_c}
 use borrow.Author.Rules.{rules}
 use Rattle.keeper.proofs.c.keeper_view_capacity.Statement.{statement}
 use Rattle.keeper.proofs.c.keeper_view_capacity.Tie as tie
 
 returns : tie.Need-returns
-returns c = viewed-to-c (λ (v : Viewed). v.figures.capacity) _ (Seen _ _ _ _) _ _ c.before.before.before.view.ensures c.before.capacity.given.1 refl
+returns c = viewed_to_c (λ (v : Viewed). v.figures.capacity) _ (Seen _ _ _ _) _ _ c.before.before.before.view.ensures c.before.capacity.given.1 refl
 
 returns-2 : tie.Need-returns-2
-returns-2 c = viewed-to-c (λ (v : Viewed). v.figures.capacity) _ (Refused _) 0 _ c.before.before.view.ensures c.enum_told.given.1 refl
+returns-2 c = viewed_to_c (λ (v : Viewed). v.figures.capacity) _ (Refused _) 0 _ c.before.before.view.ensures c.enum_told.given.1 refl
 
 pub keeper-view-capacity-spec : {M : Type 1} → statement M
 keeper-view-capacity-spec =

@@ -7,7 +7,7 @@ use native.Mathlib.Omega.{arith}
 use lib.ListN.{length, drop}
 use lib.Dec.{eqb}
 use Rattle.numbers.specs.Comparing.{same}
-use Rattle.numbers.proofs.Comparison.{same-lengths}
+use Rattle.numbers.proofs.Comparison.{same_lengths}
 use Rattle.numbers.proofs.Differences as differences
 use Rattle.numbers.proofs.comparing.same.Statement.{statement}
 use Rattle.numbers.proofs.comparing.same.Tie as tie
@@ -19,7 +19,7 @@ abbrev decreases-loop : tie.decreases-loop
 decreases-loop a b differ₀ i₀ differ i = length a - i
 
 returns : tie.Need-returns invariant-loop decreases-loop
-returns c = sym (same-lengths c.before.args.a.now c.before.args.b.now c.if1.true)
+returns c = sym (same_lengths c.before.args.a.now c.before.args.b.now c.if1.true)
 
 loop-holds : tie.Need-loop-init invariant-loop decreases-loop
 loop-holds c = (omega arith, refl)

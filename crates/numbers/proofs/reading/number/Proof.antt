@@ -9,12 +9,12 @@ use mathlib.Core.List.{List}
 use lib.ListN.{length, get_or, drop, drop_of_length-le}
 use lib.Seq.{drop-cons}
 use lib.Arith.{digits_lt}
-use Rattle.numbers.specs.Numbers.{beFrom, be}
+use Rattle.numbers.specs.Numbers.{be_from, be}
 use Rattle.numbers.proofs.reading.number.Statement.{statement}
 use Rattle.numbers.proofs.reading.number.Tie as tie
 
 abbrev invariant-loop : tie.invariant-loop
-invariant-loop s n₀ i₀ n i = (i ≤ length s) × (n < 256 ^ i) × (beFrom n (drop i s) ≡ be s)
+invariant-loop s n₀ i₀ n i = (i ≤ length s) × (n < 256 ^ i) × (be_from n (drop i s) ≡ be s)
 
 abbrev decreases-loop : tie.decreases-loop
 decreases-loop s n₀ i₀ n i = length s - i
@@ -30,8 +30,8 @@ fits n x i few h k =
     lt_of_lt_of_le (below n x i h k) (pow-le-pow_right (zero-lt-suc 255) more)
 
 -- a turn takes one byte from what is left
-turn : (n i : ℕ) (s : List ℕ) → i < length s → beFrom (n * 256 + get_or s i 0) (drop (i + 1) s) ≡ beFrom n (drop i s)
-unfolding beFrom
+turn : (n i : ℕ) (s : List ℕ) → i < length s → be_from (n * 256 + get_or s i 0) (drop (i + 1) s) ≡ be_from n (drop i s)
+unfolding be_from
 turn n i s h = rw (add-one, drop-cons s i 0 h)
 
 -- the byte that a turn reads
@@ -74,7 +74,7 @@ loop-again c =
     (omega arith, below l.n (byte c) l.i l.invariant.1 (taken c).0, turn l.n l.i s c.before.loop-test.true ∙ l.invariant.2)
 
 returns : tie.Need-returns invariant-loop decreases-loop
-unfolding beFrom
+unfolding be_from
 returns c = rw (drop_of_length-le c.before.before.args.s.now c.loop-test.false) at c.before.loop.invariant.2
 
 pub number-spec : {M : Type 1} → statement M

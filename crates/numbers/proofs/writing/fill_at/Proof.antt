@@ -5,7 +5,7 @@ use mathlib.Core.List.{List, ◌++◌}
 use lib.ListN.{length, take, drop}
 use Rattle.numbers.specs.Numbers.{bytes_of}
 use Rattle.numbers.specs.Parts.{over}
-use Rattle.numbers.proofs.Numbers.{length-bytesOf}
+use Rattle.numbers.proofs.Numbers.{length-bytes_of}
 use Rattle.numbers.proofs.Parts.{length_part}
 use Rattle.numbers.proofs.Lending.{lent, returned}
 use borrow.Author.Rules.{rules}
@@ -17,7 +17,7 @@ filled : (at w x : ℕ) (v d : List ℕ) → at + w ≤ length d → v ≡ bytes
     → take at d ++ (v ++ drop (at + w - at) (drop at d)) ≡ over at (bytes_of w x) d
 filled at w x v d fits full =
     let exact : v ≡ bytes_of w x = rw (← length_part at w d fits, ← lent at w d) full in
-    rw exact (returned at w (bytes_of w x) d (length-bytesOf w x))
+    rw exact (returned at w (bytes_of w x) d (length-bytes_of w x))
 
 add-fill : tie.Need-overflow-add-fill
 add-fill c = search rules

@@ -7,8 +7,8 @@ use Rattle.offers.proofs.validity.current.Tie as tie
 
 returns : tie.Need-returns
 returns c =
-    let compared : c.same.result ≡ same c.before.before.summary-part.result.now c.before.page-summary.result.now = c.same.ensures in
-    compared ∙ ap₂ same c.before.before.summary-part.ensures c.before.page-summary.ensures
+    let compared : c.same.result ≡ same c.before.before.summary-part.result.now c.before.page_summary_lem.result.now = c.same.ensures in
+    compared ∙ ap₂ same c.before.before.summary-part.ensures c.before.page_summary_lem.ensures
 
 pub current-spec : {M : Type 1} → statement M
 current-spec = tie.close (tie.spec (λ c κs. search rules) (λ c κs. search rules) (λ c κs. search rules) returns)

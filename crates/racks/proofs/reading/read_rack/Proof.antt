@@ -2,7 +2,7 @@
 use borrow.Author.Rules.{rules}
 use mathlib.Core.Path.{sym}
 use native.Mathlib.Nat.{add_assoc}
-use Rattle.racks.proofs.RackBytes.{rackOf-part}
+use Rattle.racks.proofs.RackBytes.{rack_of-part}
 use Rattle.racks.proofs.reading.read_rack.Statement.{statement}
 use Rattle.racks.proofs.reading.read_rack.Tie as tie
 
@@ -13,7 +13,7 @@ returns c =
     let first = second.before in
     let a = first.before.before.args in
     rw (c.read642.ensures, third.read64.ensures, second.read322.ensures, first.read32.ensures)
-    (sym (simp add_assoc at (rackOf-part a.at a.s.now)))
+    (sym (simp add_assoc at (rack_of-part a.at a.s.now)))
 
 pub read-rack-spec : {M : Type 1} → statement M
 read-rack-spec =

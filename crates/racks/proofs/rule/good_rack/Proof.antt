@@ -5,21 +5,21 @@ use mathlib.Core.Path.{◌≡◌, refl, sym, ◌∙◌}
 use mathlib.Core.Bool.{◌&&◌, and-eq-true_iff}
 use mathlib.Core.Logic.{⊎_elim}
 use lib.Dec.{leb}
-use Rattle.racks.specs.Rule.{goodRack, amountLimit, flowLimit}
+use Rattle.racks.specs.Rule.{good_rack, amount_limit, flow_limit}
 use Rattle.racks.proofs.rule.good_rack.Statement.{statement}
 use Rattle.racks.proofs.rule.good_rack.Tie as tie
 
 -- the first two tests
-two : (c : tie.Joined1) → let r = c.before.before.args.r in c.if1.if2 ≡ (leb r.capacity amountLimit && leb r.stored r.capacity)
+two : (c : tie.Joined1) → let r = c.before.before.args.r in c.if1.if2 ≡ (leb r.capacity amount_limit && leb r.stored r.capacity)
 two c =
     let x = c.before.before.args.r.capacity in
     ⊎_elim
-    (λ w. rw (le-leb x amountLimit w.0.taken) w.2)
-    (λ w. w.1 ∙ rw (lt-leb x amountLimit w.0.left))
+    (λ w. rw (le-leb x amount_limit w.0.taken) w.2)
+    (λ w. w.1 ∙ rw (lt-leb x amount_limit w.0.left))
     c.if1.branch
 
 -- and the third
-three : (c : tie.Joined2) → c.if2.if3 ≡ (c.before.if1.if2 && leb c.before.before.before.args.r.taken flowLimit)
+three : (c : tie.Joined2) → c.if2.if3 ≡ (c.before.if1.if2 && leb c.before.before.before.args.r.taken flow_limit)
 three c = ⊎_elim (λ w. rw w.0.taken w.2) (λ w. w.1 ∙ rw w.0.left) c.if2.branch
 
 -- and the fourth
@@ -32,13 +32,13 @@ sub-result c =
     leb-true _ _ ((and-eq-true_iff came.before.if2.if3 _).0 (sym (four came) ∙ c.before.before.if4.true)).1
 
 returns : tie.Need-returns
-unfolding goodRack
+unfolding good_rack
 returns c =
     let came = c.before.before.before in
     rw (← two came.before.before, ← three came.before, ← four came, c.before.before.if4.true) refl
 
 returns-2 : tie.Need-returns-2
-unfolding goodRack
+unfolding good_rack
 returns-2 c =
     let came = c.before in
     rw (← two came.before.before, ← three came.before, ← four came, c.if4.false)

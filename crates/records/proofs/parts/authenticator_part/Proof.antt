@@ -1,6 +1,6 @@
 -- The authenticator is the part of a record that the layout names. Assumes nothing.
 use Rattle.records.specs.Form.{form_of}
-use Rattle.records.specs.Record.{stateSize}
+use Rattle.records.specs.Record.{state_size}
 use Prim.Native.Nat.{◌+◌}
 use Rattle.numbers.proofs.Lending.{lent}
 use borrow.Author.Rules.{rules}
@@ -8,7 +8,7 @@ use Rattle.records.proofs.parts.authenticator_part.Statement.{statement}
 use Rattle.records.proofs.parts.authenticator_part.Tie as tie
 
 returns : tie.Need-returns
-returns c = let s = c.before.before.before.args in rw c.before.state-end.ensures.0 (lent (3 + stateSize (form_of s.form) + 32) 32 s.«record».now)
+returns c = let s = c.before.before.before.args in rw c.before.state-end.ensures.0 (lent (3 + state_size (form_of s.form) + 32) 32 s.«record».now)
 
 pub authenticator-part-spec : {M : Type 1} → statement M
 authenticator-part-spec =

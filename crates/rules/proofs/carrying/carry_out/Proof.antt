@@ -1,7 +1,7 @@
 -- `carry_out` meets its contract: kinds 1 to 3 put one rack, and a move puts two, one after the other. Assumes nothing.
 use mathlib.Core.Path.{refl}
-use Rattle.rules.proofs.Rulings.{free-charge, free-discharge, free_move}
-use Rattle.rules.proofs.InPlace.{holds, carried-one, halfway, carried-move}
+use Rattle.rules.proofs.Rulings.{free_charge, free_discharge, free_move}
+use Rattle.rules.proofs.InPlace.{holds, carried_one, halfway, carried_move}
 use borrow.Author.Rules.{rules}
 use Rattle.rules.proofs.carrying.carry_out.Statement.{statement}
 use Rattle.rules.proofs.carrying.carry_out.Tie as tie
@@ -13,13 +13,13 @@ charge-requires : tie.Need-charge-requires
 charge-requires c κs =
     let o = c.before.before in
     let ready = rw o.q2.given.1 at o.before.before.before.requires in
-    (holds ready, free-charge _ _ _ ready.free)
+    (holds ready, free_charge _ _ _ ready.free)
 
 discharge-requires : tie.Need-discharge-requires
 discharge-requires c κs =
     let o = c.before.before in
     let ready = rw o.q3.given.1 at o.before.before.before.requires in
-    (holds ready, free-discharge _ _ _ ready.free)
+    (holds ready, free_discharge _ _ _ ready.free)
 
 discharge-requires-2 : tie.Need-discharge-requires-2
 discharge-requires-2 c κs =
@@ -39,21 +39,21 @@ returns c =
     let p = c.before.before in
     let o = p.before.before.before in
     let kind = o.q.given.1 in
-    rw kind (carried-one _ _ _ _ (rw kind at o.before.before.before.requires) (λ i. (c.slice-known2.given i).fits) p.set-capacity.auto.0 refl p.set-capacity.ensures)
+    rw kind (carried_one _ _ _ _ (rw kind at o.before.before.before.requires) (λ i. (c.slice-known2.given i).fits) p.set-capacity.auto.0 refl p.set-capacity.ensures)
 
 returns-2 : tie.Need-returns-2
 returns-2 c =
     let p = c.before.before in
     let o = p.before.before.before in
     let kind = o.q2.given.1 in
-    rw kind (carried-one _ _ _ _ (rw kind at o.before.before.before.requires) (λ i. (c.slice-known3.given i).fits) p.charge.auto.0 refl p.charge.ensures)
+    rw kind (carried_one _ _ _ _ (rw kind at o.before.before.before.requires) (λ i. (c.slice-known3.given i).fits) p.charge.auto.0 refl p.charge.ensures)
 
 returns-3 : tie.Need-returns-3
 returns-3 c =
     let p = c.before.before in
     let o = p.before.before.before in
     let kind = o.q3.given.1 in
-    rw kind (carried-one _ _ _ _ (rw kind at o.before.before.before.requires) (λ i. (c.slice-known4.given i).fits) p.discharge.auto.0 refl p.discharge.ensures)
+    rw kind (carried_one _ _ _ _ (rw kind at o.before.before.before.requires) (λ i. (c.slice-known4.given i).fits) p.discharge.auto.0 refl p.discharge.ensures)
 
 returns-4 : tie.Need-returns-4
 returns-4 c =
@@ -62,7 +62,7 @@ returns-4 c =
     let o = d.before.before.before in
     let kind = o.q4.given.1 in
     let ready = rw kind at o.before.before.before.requires in
-    rw kind (carried-move _ _ _ _ _ _ ready d.discharge2.auto.0 d.discharge2.ensures _ _ (λ i. (c.slice-known6.given i).fits) p.charge2.auto.0 p.charge2.ensures)
+    rw kind (carried_move _ _ _ _ _ _ ready d.discharge2.auto.0 d.discharge2.ensures _ _ (λ i. (c.slice-known6.given i).fits) p.charge2.auto.0 p.charge2.ensures)
 
 pub carry-out-spec : {M : Type 1} → statement M
 carry-out-spec =

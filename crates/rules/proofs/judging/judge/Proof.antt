@@ -1,6 +1,6 @@
 -- `judge` meets its contract: each kind is judged by the racks that it names. Assumes nothing.
 use mathlib.Core.Path.{◌∙◌}
-use Rattle.rules.proofs.Tests.{of-capacity, of-charge, of-discharge, of-move}
+use Rattle.rules.proofs.Tests.{of_capacity, of_charge, of_discharge, of_move}
 use borrow.Author.Rules.{rules}
 use Rattle.rules.proofs.judging.judge.Statement.{statement}
 use Rattle.rules.proofs.judging.judge.Tie as tie
@@ -21,18 +21,18 @@ rack-at-requires-5 : tie.Need-rack-at-requires-5
 rack-at-requires-5 c κs = rw c.before.before.q4.given.1 at c.before.before.before.before.before.requires.other
 
 returns : tie.Need-returns
-returns c = c.on-capacity.ensures ∙ of-capacity _ _ _ c.before.rack-at.ensures c.before.before.before.q.given.1
+returns c = c.on-capacity.ensures ∙ of_capacity _ _ _ c.before.rack-at.ensures c.before.before.before.q.given.1
 
 returns-2 : tie.Need-returns-2
-returns-2 c = c.on-charge.ensures ∙ of-charge _ _ _ c.before.rack-at2.ensures c.before.before.before.q2.given.1
+returns-2 c = c.on-charge.ensures ∙ of_charge _ _ _ c.before.rack-at2.ensures c.before.before.before.q2.given.1
 
 returns-3 : tie.Need-returns-3
-returns-3 c = c.on-discharge.ensures ∙ of-discharge _ _ _ c.before.rack-at3.ensures c.before.before.before.q3.given.1
+returns-3 c = c.on-discharge.ensures ∙ of_discharge _ _ _ c.before.rack-at3.ensures c.before.before.before.q3.given.1
 
 returns-4 : tie.Need-returns-4
 returns-4 c =
     let o = c.before.before in
-    c.on-move.ensures ∙ of-move _ _ _ _ o.rack-at4.ensures c.before.rack-at5.ensures o.before.before.q4.given.1
+    c.on-move.ensures ∙ of_move _ _ _ _ o.rack-at4.ensures c.before.rack-at5.ensures o.before.before.q4.given.1
 
 pub judge-spec : {M : Type 1} → statement M
 judge-spec =

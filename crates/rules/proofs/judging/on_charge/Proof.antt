@@ -2,30 +2,30 @@
 use mathlib.Core.Path.{◌≡◌, refl, sym, ◌∙◌}
 use Prim.Native.Nat.{◌+◌}
 use lib.Dec.{ltb}
-use Rattle.racks.specs.Rule.{flowLimit}
-use Rattle.rules.specs.Rules.{overCapacity, overStored, overLimit}
-use Rattle.rules.proofs.Tests.{ruling-is}
+use Rattle.racks.specs.Rule.{flow_limit}
+use Rattle.rules.specs.Rules.{over_capacity, over_stored, over_limit}
+use Rattle.rules.proofs.Tests.{ruling_is}
 use borrow.Author.Rules.{rules}
 use Rattle.rules.proofs.judging.on_charge.Statement.{statement}
 use Rattle.rules.proofs.judging.on_charge.Tie as tie
 
 returns : tie.Need-returns
-unfolding overCapacity
-returns c = ruling-is _ _ (sym c.before.passes.ensures ∙ c.if1.true) refl refl
+unfolding over_capacity
+returns c = ruling_is _ _ (sym c.before.passes.ensures ∙ c.if1.true) refl refl
 
 returns-2 : tie.Need-returns-2
-unfolding overCapacity overStored overLimit
+unfolding over_capacity over_stored over_limit
 returns-2 c =
     let nine = c.before.before in
     let s = nine.before.before.before.before.args in
-    let tested : c.before.passes2.result ≡ ltb flowLimit (s.r.taken + s.amount) = c.before.passes2.ensures in
-    ruling-is _ _ (sym nine.before.passes.ensures ∙ nine.if1.false) refl (sym tested ∙ c.if2.true)
+    let tested : c.before.passes2.result ≡ ltb flow_limit (s.r.taken + s.amount) = c.before.passes2.ensures in
+    ruling_is _ _ (sym nine.before.passes.ensures ∙ nine.if1.false) refl (sym tested ∙ c.if2.true)
 
 returns-3 : tie.Need-returns-3
-unfolding overCapacity overStored overLimit
+unfolding over_capacity over_stored over_limit
 returns-3 c =
     let nine = c.before.before in
-    ruling-is _ _ (sym nine.before.passes.ensures ∙ nine.if1.false) refl (sym c.before.passes2.ensures ∙ c.if2.false)
+    ruling_is _ _ (sym nine.before.passes.ensures ∙ nine.if1.false) refl (sym c.before.passes2.ensures ∙ c.if2.false)
 
 pub on-charge-spec : {M : Type 1} → statement M
 on-charge-spec =

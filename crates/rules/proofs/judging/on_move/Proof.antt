@@ -5,44 +5,44 @@ use Prim.Native.Nat.{◌+◌}
 use mathlib.Core.List.{[], ◌∷◌}
 use lib.Dec.{ltb}
 use borrow.Author.Tests.{lt-ltb, le-ltb}
-use Rattle.racks.specs.Rule.{flowLimit}
+use Rattle.racks.specs.Rule.{flow_limit}
 use Rattle.refusals.specs.declared.Refusal.TheVariants.{Limit}
 use Rattle.requests.specs.declared.Request.TheVariants.{Move}
 use Rattle.rules.specs.declared.Ruling.TheVariants.{Free, Barred}
-use Rattle.rules.specs.Rules.{overCapacity, overStored, ruling}
-use Rattle.rules.proofs.Tests.{ruling-is, limit_is}
+use Rattle.rules.specs.Rules.{over_capacity, over_stored, ruling}
+use Rattle.rules.proofs.Tests.{ruling_is, limit_is}
 use borrow.Author.Rules.{rules}
 use Rattle.rules.proofs.judging.on_move.Statement.{statement}
 use Rattle.rules.proofs.judging.on_move.Tie as tie
 
 returns : tie.Need-returns
-unfolding overCapacity
+unfolding over_capacity
 returns c =
     let s = c.before.before.before.before.args in
     let tested : c.before.passes.result ≡ ltb s.o.capacity (s.o.stored + s.amount) = c.before.passes.ensures in
-    ruling-is _ _ (sym tested ∙ c.if1.true) refl refl
+    ruling_is _ _ (sym tested ∙ c.if1.true) refl refl
 
 returns-2 : tie.Need-returns-2
-unfolding overCapacity overStored
+unfolding over_capacity over_stored
 returns-2 c =
     let nine = c.before.before in
-    ruling-is _ _ (sym nine.before.passes.ensures ∙ nine.if1.false) (lt-ltb _ _ c.if2.true) refl
+    ruling_is _ _ (sym nine.before.passes.ensures ∙ nine.if1.false) (lt-ltb _ _ c.if2.true) refl
 
 -- past 9 and 10 the two halves of 11 decide
 abbrev start : tie.Else2 → tie.Start
 start c = c.before.before.before.before.before.before
 
-eleven : (c : tie.Else2) {b d : Bool} → ltb flowLimit ((start c).args.o.taken + (start c).args.amount) ≡ b → ltb flowLimit ((start c).args.r.given + (start c).args.amount) ≡ d
+eleven : (c : tie.Else2) {b d : Bool} → ltb flow_limit ((start c).args.o.taken + (start c).args.amount) ≡ b → ltb flow_limit ((start c).args.r.given + (start c).args.amount) ≡ d
     → cond (b || d) (Barred Limit) Free ≡ ruling ((start c).args.r ∷ (start c).args.o ∷ []) (Move 0 1 (start c).args.amount)
-unfolding overCapacity overStored
+unfolding over_capacity over_stored
 eleven c taken given =
     let nine = c.before.before in
-    ruling-is _ _ (sym nine.before.passes.ensures ∙ nine.if1.false) (le-ltb _ _ c.if2.false) (limit_is _ 0 1 _ taken given)
+    ruling_is _ _ (sym nine.before.passes.ensures ∙ nine.if1.false) (le-ltb _ _ c.if2.false) (limit_is _ 0 1 _ taken given)
 
 returns-3 : tie.Need-returns-3
 returns-3 c =
     let s = (start c.before.before).args in
-    let tested : c.before.passes2.result ≡ ltb flowLimit (s.o.taken + s.amount) = c.before.passes2.ensures in
+    let tested : c.before.passes2.result ≡ ltb flow_limit (s.o.taken + s.amount) = c.before.passes2.ensures in
     eleven c.before.before (sym tested ∙ c.if3.true) refl
 
 returns-4 : tie.Need-returns-4

@@ -7,7 +7,7 @@ use lib.ListN.{length}
 use Prim.Native.Nat.{ℕ, ◌+◌, ◌-◌, ◌/◌, ◌%◌, ◌≤◌}
 use mathlib.Core.Path.{◌≡◌, sym, ap, ◌∙◌}
 use native.Mathlib.Omega.{arith}
-use Rattle.sha256.proofs.MessageLaws.{sizes, aligned, room, word-1, word-2, word-3, word-4, word-before-length}
+use Rattle.sha256.proofs.MessageLaws.{sizes, aligned, room, word_1, word_2, word_3, word_4, word_before_length}
 use borrow.Author.Rules.{rules}
 use Rattle.sha256.proofs.message.word_at.Statement.{statement}
 use Rattle.sha256.proofs.message.word_at.Tie as tie
@@ -22,7 +22,7 @@ add-if1 c =
 returns : tie.Need-returns
 returns c =
     let s = c.before.before.before.before.before.args in
-    c.word.ensures ∙ sym (word-1 s.a.now s.b.now s.c.now (padding s.len) s.k c.before.if1.true)
+    c.word.ensures ∙ sym (word_1 s.a.now s.b.now s.c.now (padding s.len) s.k c.before.if1.true)
 
 add-if3 : tie.Need-overflow-add-if3
 add-if3 c =
@@ -34,7 +34,7 @@ add-if3 c =
 returns-2 : tie.Need-returns-2
 returns-2 c =
     let s = c.before.before.before.before.before.before.before.args in
-    c.word2.ensures ∙ sym (word-2 s.a.now s.b.now s.c.now (padding s.len) (s.k - length s.a.now) s.k (omega arith) c.before.if3.true)
+    c.word2.ensures ∙ sym (word_2 s.a.now s.b.now s.c.now (padding s.len) (s.k - length s.a.now) s.k (omega arith) c.before.if3.true)
 
 add-if5 : tie.Need-overflow-add-if5
 add-if5 c =
@@ -46,7 +46,7 @@ add-if5 c =
 returns-3 : tie.Need-returns-3
 returns-3 c =
     let s = c.before.before.before.before.before.before.before.before.before.args in
-    c.word3.ensures ∙ sym (word-3 s.a.now s.b.now s.c.now (padding s.len) (s.k - length s.a.now - length s.b.now) s.k (omega arith) c.before.if5.true)
+    c.word3.ensures ∙ sym (word_3 s.a.now s.b.now s.c.now (padding s.len) (s.k - length s.a.now - length s.b.now) s.k (omega arith) c.before.if5.true)
 
 padding-word-requires : tie.Need-padding-word-requires
 padding-word-requires c κs =
@@ -61,7 +61,7 @@ padding-word-requires c κs =
 returns-4 : tie.Need-returns-4
 returns-4 c =
     let s = c.before.before.before.before.before.before.before.before.before.before.args in
-    c.padding-word.ensures ∙ sym (word-4 s.a.now s.b.now s.c.now (padding s.len) (s.k - length s.a.now - length s.b.now - length s.c.now) s.k (omega arith))
+    c.padding-word.ensures ∙ sym (word_4 s.a.now s.b.now s.c.now (padding s.len) (s.k - length s.a.now - length s.b.now - length s.c.now) s.k (omega arith))
 
 mixed-word-requires : tie.Need-mixed-word-requires
 mixed-word-requires c κs =
@@ -80,7 +80,7 @@ returns-5 c =
     let space : s.k + 12 ≤ length s.a.now + length s.b.now + length s.c.now + length (padding s.len) =
     room (length s.a.now + length s.b.now + length s.c.now) (length (padding s.len)) ((length s.a.now + length s.b.now + length s.c.now + 72) / 64) s.k z.blocks o.requires.1.1 near z.least in
     let inside : s.k + 12 ≤ length (s.a.now ++ s.b.now ++ s.c.now) + length (padding s.len) = rw z.pieces space in
-    c.mixed-word.ensures ∙ sym (word-before-length (s.a.now ++ s.b.now ++ s.c.now) s.len s.k inside)
+    c.mixed-word.ensures ∙ sym (word_before_length (s.a.now ++ s.b.now ++ s.c.now) s.len s.k inside)
 
 pub word-at-spec : {M : Type 1} → statement M
 word-at-spec =

@@ -1,8 +1,8 @@
 -- `schedule` gives W of the block. The invariant: the first n + 16 words are the schedule after n steps. Assumes nothing.
 use borrow.Author.Rules.{rules}
 use Rattle.sha256.proofs.Growing.{filled}
-use Rattle.sha256.proofs.ScheduleLaws.{four-words}
-use Rattle.sha256_block.specs.Schedule.{nextWord, schedule, W}
+use Rattle.sha256.proofs.ScheduleLaws.{four_words}
+use Rattle.sha256_block.specs.Schedule.{next_word, schedule, W}
 use Rattle.sha256.specs.Parsing.{block}
 use Rattle.sha256.specs.Padding.{padding}
 use native.Mathlib.Omega.{arith}
@@ -27,12 +27,12 @@ loop-again : tie.Need-loop-preserved invariant-loop decreases-loop
 loop-again c =
     let at = c.before.before.before.before.before.loop in
     let w = set at.w (at.n + 16) c.before.before.before.next_word.result in
-    let second : c.before.before.next-word2.result ≡ nextWord (get_or w (at.n + 15) 0) (get_or w (at.n + 10) 0) (get_or w (at.n + 2) 0) (get_or w (at.n + 1) 0) =
+    let second : c.before.before.next-word2.result ≡ next_word (get_or w (at.n + 15) 0) (get_or w (at.n + 10) 0) (get_or w (at.n + 2) 0) (get_or w (at.n + 1) 0) =
     c.before.before.next-word2.ensures in (
       omega arith,
       omega arith,
       simp length-set at.invariant.2,
-      four-words _ _ _ _ _ _ _ (omega arith) at.invariant.3
+      four_words _ _ _ _ _ _ _ (omega arith) at.invariant.3
           c.before.before.before.next_word.ensures
           second
           c.before.next-word3.ensures

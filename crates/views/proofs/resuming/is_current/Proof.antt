@@ -1,6 +1,6 @@
 -- Tests 1, 3 to 5 and 7 in their order, and then the two summaries. Assumes nothing.
 use Rattle.records.specs.Form.{form_of}
-use Rattle.views.proofs.Chosen.{not-paged, not_tested, not_valid, is-current}
+use Rattle.views.proofs.Chosen.{not_paged, not_tested, not_valid, is_current}
 use Rattle.offers.proofs.Passing.{passed_length}
 use mathlib.Core.Path.{sym, ◌∙◌}
 use borrow.Author.Rules.{rules}
@@ -10,7 +10,7 @@ use Rattle.views.proofs.resuming.is_current.Tie as tie
 returns : tie.Need-returns
 returns c =
     let s = c.before.before.before.args in
-    not-paged (form_of s.form) s.page.now s.«record».now c.if1.true
+    not_paged (form_of s.form) s.page.now s.«record».now c.if1.true
 
 valid-requires : tie.Need-valid-requires
 valid-requires c κs =
@@ -46,7 +46,7 @@ returns-4 c =
     let f = v.before.before.before.before.before in
     let t = f.before.before in
     let s = t.before.before.before.before.args in
-    is-current (form_of s.form) s.page.now s.«record».now t.before.if1.false _ t.test-record.ensures f.enum-told2.given.1 v.before.before.before.before.prepared.ensures v.valid.ensures c.before.if2.false _ c.current.ensures
+    is_current (form_of s.form) s.page.now s.«record».now t.before.if1.false _ t.test-record.ensures f.enum-told2.given.1 v.before.before.before.before.prepared.ensures v.valid.ensures c.before.if2.false _ c.current.ensures
 
 pub is-current-spec : {M : Type 1} → statement M
 is-current-spec =

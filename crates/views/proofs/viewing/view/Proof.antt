@@ -1,7 +1,7 @@
 -- Each test in its place, and past them all the figures of the state. Assumes nothing.
 use Rattle.records.specs.Form.{form_of}
-use Rattle.views.proofs.Shown.{view-early, view-looked, view-forged, view-stale, view-current, state-ready, state-shown}
-use Rattle.records.proofs.FormLaws.{state-fits}
+use Rattle.views.proofs.Shown.{view_early, view_looked, view_forged, view_stale, view_current, state_ready, state_shown}
+use Rattle.records.proofs.FormLaws.{state_fits}
 use lib.ListN.{length}
 use Rattle.offers.specs.Offers.{PassedLook}
 use Rattle.offers.proofs.Passing.{looked-length}
@@ -14,7 +14,7 @@ look : (f : tie.After-enum-told) → let s = f.before.before.before.before.befor
     PassedLook (form_of s.form) (length s.page.now) s.«record».now s.rack
 look f =
     let s = f.before.before.before.before.before.args in
-    view-looked _ s.page.now _ _ f.before.before.test-look.ensures f.enum_told.given.1
+    view_looked _ s.page.now _ _ f.before.before.test-look.ensures f.enum_told.given.1
 
 prepared-requires : tie.Need-prepared-requires
 prepared-requires c κs =
@@ -32,7 +32,7 @@ returns c =
     let f = v.before.before.before.before.before in
     let t = f.before.before in
     let s = t.before.before.before.args in
-    view-forged _ s.page.now _ _ t.test-look.ensures f.enum_told.given.1 v.before.before.before.before.prepared.ensures v.valid.ensures c.if1.true
+    view_forged _ s.page.now _ _ t.test-look.ensures f.enum_told.given.1 v.before.before.before.before.prepared.ensures v.valid.ensures c.if1.true
 
 current-requires : tie.Need-current-requires
 current-requires c κs =
@@ -47,7 +47,7 @@ returns-2 c =
     let f = v.before.before.before.before.before in
     let t = f.before.before in
     let s = t.before.before.before.args in
-    view-stale _ s.page.now _ _ t.test-look.ensures f.enum_told.given.1 v.before.before.before.before.prepared.ensures v.valid.ensures i.if1.false c.before.current.ensures c.if2.true
+    view_stale _ s.page.now _ _ t.test-look.ensures f.enum_told.given.1 v.before.before.before.before.prepared.ensures v.valid.ensures i.if1.false c.before.current.ensures c.if2.true
 
 state-part-requires : tie.Need-state-part-requires
 state-part-requires c κs =
@@ -60,13 +60,13 @@ figures-requires c κs =
     let t = f.before.before in
     let s = t.before.before.before.args in
     let o = look f in
-    state-ready _ _ _ _ _ o c.state-part.ensures (state-fits s.form)
+    state_ready _ _ _ _ _ o c.state-part.ensures (state_fits s.form)
 
 returns-3 : tie.Need-returns-3
 returns-3 c =
     let t = c.before.before.before in
     let s = t.before.before.before.args in
-    view-early _ s.page.now _ _ t.test-look.ensures _ c.before.r.given.1
+    view_early _ s.page.now _ _ t.test-look.ensures _ c.before.r.given.1
 
 returns-4 : tie.Need-returns-4
 returns-4 c =
@@ -77,7 +77,7 @@ returns-4 c =
     let t = f.before.before in
     let s = t.before.before.before.args in
     let o = look f in
-    view-current _ s.page.now _ _ t.test-look.ensures f.enum_told.given.1 v.before.before.before.before.prepared.ensures v.valid.ensures i.if1.false h.before.current.ensures h.if2.false (state-shown _ _ _ _ _ o c.before.state-part.ensures _ c.figures.ensures)
+    view_current _ s.page.now _ _ t.test-look.ensures f.enum_told.given.1 v.before.before.before.before.prepared.ensures v.valid.ensures i.if1.false h.before.current.ensures h.if2.false (state_shown _ _ _ _ _ o c.before.state-part.ensures _ c.figures.ensures)
 
 pub view-spec : {M : Type 1} → statement M
 view-spec =

@@ -1,6 +1,8 @@
 // Numbers in lent bytes, the most significant byte first; comparing and copying. Nothing is owned and
 // nothing is kept: every function works on slices that its caller lends. The definitions that the
 // contracts cite are in specs/; the laws that callers cite are in proofs/.
+#![tactic(auto)]
+
 mod comparing;
 mod copying;
 mod reading;

@@ -1,4 +1,6 @@
 // The reasons for which a call is refused, in the order in which they are tested.
+#![tactic(auto)]
+
 ghost use Rattle.std.specs.Prelude.{◌≡◌};
 ghost use Rattle.refusals.specs.Numbers.{number_of};
 

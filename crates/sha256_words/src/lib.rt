@@ -1,4 +1,6 @@
 // The operations on words of FIPS 180-4, section 3.2, and the six functions of section 4.1.2.
+#![tactic(auto)]
+
 ghost use Rattle.std.specs.Prelude.{◌≡◌, ◌<◌};
 ghost use Rattle.sha256_words.specs.Words.{◌⊞◌, ROTR};
 ghost use Rattle.sha256_words.specs.Functions.{Ch, Maj, Σ₀, Σ₁, σ₀, σ₁};

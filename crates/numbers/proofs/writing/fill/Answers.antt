@@ -8,14 +8,7 @@ use mathlib.Core.List.{List, ◌∷◌}
 use lib.ListN.{length, drop, set, length-set}
 use lib.Seq.{drop-length, drop-cons, get_or-set_same, drop-set-lt}
 use Rattle.numbers.specs.Numbers.{bytes_of}
-use Rattle.numbers.proofs.writing.fill.Statement.{statement}
-use Rattle.numbers.proofs.writing.fill.Tie as tie
-
-abbrev invariant-loop : tie.invariant-loop
-invariant-loop d₀ x n left₀ i₀ d left i = (i ≤ n) × (length d ≡ n) × (left ≡ x / 256 ^ i) × (drop (n - i) d ≡ bytes_of i x)
-
-abbrev decreases-loop : tie.decreases-loop
-decreases-loop d₀ x n left₀ i₀ d left i = n - i
+use Rattle.numbers.proofs.writing.fill.Goals as goal
 
 -- a store at k, seen from k on
 store : (d : List ℕ) (k v : ℕ) → k < length d → drop k (set d k v) ≡ v ∷ drop (suc k) d
@@ -33,56 +26,25 @@ turn d n i x h e k =
     let next : suc (n - (i + 1)) ≡ n - i = omega arith in
     rw (store d (n - (i + 1)) (x / 256 ^ i % 256) inside, next, k, add-one)
 
-loop-holds : tie.Need-loop-init invariant-loop decreases-loop
+pub loop-i-init : goal.loop-i-init
 unfolding bytes_of
-loop-holds c = (omega arith, refl, sym (div-one c.args.x), rw sub-zero (drop-length c.args.d.now))
+loop-i-init c = (omega arith, refl, sym (div-one c.args.x), rw sub-zero (drop-length c.args.d.now))
 
-add-i : tie.Need-overflow-add-i invariant-loop decreases-loop
-add-i c = omega arith
-
-cast-d : tie.Need-overflow-cast-d invariant-loop decreases-loop
-cast-d c = omega arith
-
-sub-d : tie.Need-overflow-sub-d invariant-loop decreases-loop
-sub-d c = omega arith
-
-slice-write-d : tie.Need-slice-write-d invariant-loop decreases-loop
-slice-write-d c = omega arith
-
-loop-less : tie.Need-loop-smaller invariant-loop decreases-loop
-loop-less c = omega arith
-
-loop-again : tie.Need-loop-preserved invariant-loop decreases-loop
-loop-again c =
-    let a = c.before.before.args in
-    let l = c.before.loop in
+pub loop-i-preserved : goal.loop-i-preserved
+loop-i-preserved c =
+    let a = c.args in
+    let l = c.loop-i in
     let next : l.left / 256 ≡ a.x / 256 ^ (l.i + 1) = rw (l.invariant.2, div-div-eq-div-mul, add-one, pow-suc) in
-    let more = turn l.d (length a.d.now) l.i a.x c.loop-test.true l.invariant.1 l.invariant.3 in
+    let more = turn l.d (length a.d.now) l.i a.x c.loop-i-test.true l.invariant.1 l.invariant.3 in
     (omega arith, simp length-set l.invariant.1, next, rw l.invariant.2 more)
 
-same_length : tie.Need-same-length invariant-loop decreases-loop
-same_length c = c.before.loop.invariant.1
+pub shape_of-d : goal.shape_of-d
+shape_of-d c = c.loop-i.invariant.1
 
-returns : tie.Need-returns invariant-loop decreases-loop
+pub returns : goal.returns
 returns c =
-    let n = length c.before.before.args.d.now in
-    let l = c.before.loop in
+    let n = length c.args.d.now in
+    let l = c.loop-i in
     let all : l.i ≡ n = omega arith in
     let none : n - l.i ≡ 0 = omega arith in
     rw (← all) (rw none at l.invariant.3)
-
-pub fill_spec : {M : Type 1} → statement M
-fill_spec =
-    tie.close
-    (tie.spec
-    invariant-loop
-    decreases-loop
-    loop-holds
-    add-i
-    cast-d
-    sub-d
-    slice-write-d
-    loop-less
-    loop-again
-    same_length
-    returns)

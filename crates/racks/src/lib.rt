@@ -1,6 +1,8 @@
 // Racks where they lie in lent bytes: read, written, held to the state rule, and shown. Nothing is copied
 // and nothing is kept. How many racks there are is said by the length of the bytes alone. The definitions
 // that the contracts cite are in specs/; the laws that callers cite are in proofs/.
+#![tactic(auto)]
+
 mod figures;
 mod reading;
 mod rule;

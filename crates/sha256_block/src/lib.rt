@@ -1,5 +1,7 @@
 // One block of FIPS 180-4, section 6.2.2: the schedule's next word (step 1) and the rounds (steps 2 to 4),
 // with the constants of section 4.2.2.
+#![tactic(auto)]
+
 ghost use Rattle.std.specs.Prelude.{◌≡◌};
 ghost use Rattle.sha256_block.specs.Schedule.{next_word};
 ghost use Rattle.sha256_block.specs.Step.{round, rounds, rounds_from, add_to};

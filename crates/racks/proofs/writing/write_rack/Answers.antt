@@ -1,0 +1,12 @@
+-- `write_rack` meets its contract: the four numbers are laid one behind the other, as the fields of the form. Assumes nothing.
+use borrow.Author.Rules.{rules}
+use native.Mathlib.Nat.{add_assoc}
+use Rattle.numbers.proofs.Numbers.{length-bytes_of}
+use Rattle.racks.proofs.RackBytes.{lay_at_rack}
+use Rattle.racks.proofs.writing.write_rack.Goals as goal
+
+pub returns : goal.returns
+returns c =
+    let a = c.args in
+    rw (c.write64-2.ensures, c.write64.ensures, c.write32-2.ensures, c.write32.ensures)
+    (simp (length-bytes_of, add_assoc) at (lay_at_rack a.at a.r a.d.now c.requires))

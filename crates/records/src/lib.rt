@@ -1,5 +1,7 @@
 // The page and the record in lent bytes: their parts where they lie, and the tests 3, 4 and 5 of a record. What reads
 // or writes a record is told its form.
+#![tactic(auto)]
+
 mod edition;
 mod forms;
 mod pages;

@@ -1,5 +1,7 @@
 // Requests: the ten bytes that the site computer sends, and what they ask. The bytes are read where they
 // lie; every content and every length gets its answer. How many racks there are is the caller's to say.
+#![tactic(auto)]
+
 mod form;
 
 ghost use Rattle.std.specs.Prelude.{◌≡◌, length};

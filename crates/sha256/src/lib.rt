@@ -1,6 +1,8 @@
 // SHA-256 (FIPS 180-4) of a message that lies in three pieces. The pieces are read where they lie and
 // are never copied together; an empty piece counts for nothing. The definitions that the contracts cite
 // are in specs/, in the standard's words.
+#![tactic(auto)]
+
 mod message;
 mod schedule;
 

@@ -9,38 +9,23 @@ use Rattle.sha256.specs.Padding.{padding}
 use Rattle.sha256.specs.Computation.{hashes, digest}
 use native.Mathlib.Omega.{arith}
 use borrow.Author.Rules.{rules}
-use Rattle.sha256.proofs.sha256_after.Statement.{statement}
-use Rattle.sha256.proofs.sha256_after.Tie as tie
+use Rattle.sha256.proofs.sha256_after.Goals as goal
 
-hash-blocks-requires : tie.Need-hash-blocks-requires
-hash-blocks-requires c κs =
-    let o = c.before.before.before in
-    let s = o.args in
+pub hash_blocks-requires : goal.hash_blocks-requires
+hash_blocks-requires c =
+    let s = c.args in
     let len = 64 * s.done + (length s.a.now + length s.b.now + length s.c.now) in
-    let inside = within s.a.now s.b.now s.c.now len o.requires (omega arith) (omega arith) in
+    let inside = within s.a.now s.b.now s.c.now len c.requires (omega arith) (omega arith) in
     let z = sizes s.a.now s.b.now s.c.now len inside in
-    (inside, omega arith)
+    record { within = inside; count_in_bounds = omega arith }
 
-returns : tie.Need-returns
+pub returns : goal.returns
 returns c =
-    let s = c.before.before.before.before.before.args in
+    let s = c.args in
     let n = length s.a.now + length s.b.now + length s.c.now in
     let m = s.a.now ++ s.b.now ++ s.c.now in
     let three : length m ≡ n = simp length-append in
-    let value : c.before.hash-blocks.result ≡ hashes s.h (m ++ padding (64 * s.done + n)) ((n + 72) / 64) = c.before.hash-blocks.ensures in
+    let value : c.hash_blocks.result ≡ hashes s.h (m ++ padding (64 * s.done + n)) ((n + 72) / 64) = c.hash_blocks.ensures in
     c.digest.ensures
     ∙ ap (λ (v : List ℕ). digest v 8) value
     ∙ after s.h s.done m (64 * s.done + n) ((n + 72) / 64) (omega arith) (omega arith)
-
-pub sha256-after-spec : {M : Type 1} → statement M
-sha256-after-spec =
-    tie.close
-    (tie.spec
-    (λ c. search rules)
-    (λ c. search rules)
-    (λ c. search rules)
-    (λ c. search rules)
-    (λ c. search rules)
-    hash-blocks-requires
-    (λ c κs. search rules)
-    returns)

@@ -3,16 +3,12 @@ use Rattle.sha256.specs.Computation.{H₀}
 use mathlib.Core.Path.{◌≡◌, refl, ap₂}
 use mathlib.Core.List.{List, [], ◌∷◌}
 use Prim.Native.Nat.{ℕ}
-use Rattle.sha256.proofs.initial.Statement.{statement}
-use Rattle.sha256.proofs.initial.Tie as tie
+use Rattle.sha256.proofs.initial.Goals as goal
 
 -- lists are the same where each word is
 word : {a b : ℕ} {l m : List ℕ} → a ≡ b → l ≡ m → a ∷ l ≡ b ∷ m
 word p q = ap₂ ◌∷◌ p q
 
-returns : tie.Need-returns
+pub returns : goal.returns
 unfolding H₀
 returns c = word refl (word refl (word refl (word refl (word refl (word refl (word refl (word refl refl)))))))
-
-pub initial-spec : {M : Type 1} → statement M
-initial-spec = tie.close (tie.spec returns)

@@ -3,8 +3,7 @@ use mathlib.Core.Path.{◌≡◌, refl}
 use borrow.Author.Tests.{ne_eqb}
 use Rattle.requests.specs.Requests.{request_by, request_of}
 use borrow.Author.Rules.{rules}
-use Rattle.requests.proofs.request_of.Statement.{statement}
-use Rattle.requests.proofs.request_of.Tie as tie
+use Rattle.requests.proofs.request_of.Goals as goal
 
 -- the fields as they were read
 fields : (c : tie.After-read32)
@@ -14,25 +13,20 @@ unfolding request_of
 fields c =
     rw (c.before.before.before.byte.ensures, c.before.before.byte2.ensures, c.before.byte3.ensures, c.read32.ensures) refl
 
-returns : tie.Need-returns
+pub returns-in-1 : goal.returns-in-1
 unfolding request_by
-returns c = rw c.match.keys1 at (fields c.before)
+returns-in-1 c = rw c.in-1.keys1 at (fields c.before)
 
-returns-2 : tie.Need-returns-2
+pub returns-in-2 : goal.returns-in-2
 unfolding request_by
-returns-2 c = rw c.match.keys2 at (fields c.before)
+returns-in-2 c = rw c.in-2.keys2 at (fields c.before)
 
-returns-3 : tie.Need-returns-3
+pub returns-in-3 : goal.returns-in-3
 unfolding request_by
-returns-3 c = rw c.match.keys3 at (fields c.before)
+returns-in-3 c = rw c.in-3.keys3 at (fields c.before)
 
-returns-4 : tie.Need-returns-4
+pub returns-in_default : goal.returns-in_default
 unfolding request_by
-returns-4 c =
-    let none = c.match.rest in
+returns-in_default c =
+    let none = c.in_default.rest in
     rw (ne_eqb _ _ none.0.0.1, ne_eqb _ _ none.0.1, ne_eqb _ _ none.1) at (fields c.before)
-
-pub request-of-spec : {M : Type 1} → statement M
-request-of-spec =
-    tie.close
-    (tie.spec (λ c κs. search rules) (λ c κs. search rules) (λ c κs. search rules) (λ c κs. search rules) returns returns-2 returns-3 returns-4)

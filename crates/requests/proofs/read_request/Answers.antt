@@ -5,23 +5,19 @@ use Rattle.requests.specs.Formed.{well_formed}
 use Rattle.requests.specs.Requests.{read_request}
 use Rattle.requests.proofs.Formed.{formed_form}
 use borrow.Author.Rules.{rules}
-use Rattle.requests.proofs.read_request.Statement.{statement}
-use Rattle.requests.proofs.read_request.Tie as tie
+use Rattle.requests.proofs.read_request.Goals as goal
 
 -- past the test it is well formed
 formed : (c : tie.Then1) → well_formed c.before.before.before.args.racks c.before.before.before.args.s.now ≡ true
 formed c = sym c.before.well-formed-2.ensures ∙ c.if1.true
 
-request-of-requires : tie.Need-request-of-requires
-request-of-requires c κs = (formed_form _ _ (formed c)).size
+pub request_of-requires : goal.request_of-requires
+request_of-requires c = (formed_form _ _ (formed c)).size
 
-returns : tie.Need-returns
+pub returns-then-well_formed : goal.returns-then-well_formed
 unfolding read_request
-returns c = rw (formed c.before, c.request-of.ensures)
+returns-then-well_formed c = rw (formed c.before, c.request_of.ensures)
 
-returns-2 : tie.Need-returns-2
+pub returns-else-well_formed : goal.returns-else-well_formed
 unfolding read_request
-returns-2 c = rw (sym c.before.well-formed-2.ensures ∙ c.if1.false)
-
-pub read-request-spec : {M : Type 1} → statement M
-read-request-spec = tie.close (tie.spec (λ c κs. search rules) request-of-requires returns returns-2)
+returns-else-well_formed c = rw (sym c.well_formed-2.ensures ∙ c.if-well_formed.false)

@@ -7,28 +7,18 @@ use mathlib.Core.List.{[]}
 use lib.ListN.{length}
 use native.Mathlib.Omega.{arith}
 use borrow.Author.Rules.{rules}
-use Rattle.sha256.proofs.absorb.Statement.{statement}
-use Rattle.sha256.proofs.absorb.Tie as tie
+use Rattle.sha256.proofs.absorb.Goals as goal
 
-hash-blocks-requires : tie.Need-hash-blocks-requires
-hash-blocks-requires c κs =
-    let s = c.before.before.before.args in
+pub hash_blocks-requires : goal.hash_blocks-requires
+hash_blocks-requires c =
+    let s = c.args in
     let long : length s.bytes.now ≡ 64 = search rules in
     let inside = within s.bytes.now [] [] 64 (omega arith) (omega arith) (omega arith) in
     let z = sizes s.bytes.now [] [] 64 inside in
-    (inside, omega arith)
+    record { within = inside; count_in_bounds = omega arith }
 
-returns : tie.Need-returns
+pub returns : goal.returns
 returns c =
-    let s = c.before.before.before.before.args in
+    let s = c.args in
     let long : length s.bytes.now ≡ 64 = search rules in
-    c.hash-blocks.ensures ∙ one_block s.h s.bytes.now [] [] (padding 64) (omega arith)
-
-pub absorb-spec : {M : Type 1} → statement M
-absorb-spec =
-    tie.close
-    (tie.spec
-    (λ c. search rules)
-    (λ c. search rules)
-    hash-blocks-requires
-    returns)
+    c.hash_blocks.ensures ∙ one_block s.h s.bytes.now [] [] (padding 64) (omega arith)

@@ -10,7 +10,7 @@ use refusals::Refusal;
 pub use repeating::repeat;
 
 // What perform and repeat answer: what is stored in the request's rack then, for a move in the one that gives.
-#[derive(Drop)]
+#[derive(Clone, Copy)]
 pub enum PerformAnswer {
     Done { stored: u32 },
     Refused(Refusal),

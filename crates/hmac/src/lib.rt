@@ -8,7 +8,7 @@ ghost use Rattle.hmac.specs.Preparation.{after_block, halves, prepared_of, mac_o
 use sha256::{absorb, initial, sha256, sha256_after};
 
 // What a key comes to: the hash values after its inner and its outer pad.
-#[derive(Drop)]
+#[derive(Clone, Copy)]
 pub struct Prepared {
     pub inner: [u32; 8],
     pub outer: [u32; 8],

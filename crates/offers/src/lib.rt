@@ -9,7 +9,7 @@ pub use testing::{test_look, test_offer};
 pub use validity::{current, valid};
 
 // What the tests find: the request, or the first refusal.
-#[derive(Drop)]
+#[derive(Clone, Copy)]
 pub enum Offer {
     Formed(Request),
     Refused(Refusal),

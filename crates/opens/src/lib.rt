@@ -18,7 +18,7 @@ use records::{Form, PAGE_SIZE, first_state, header_of, page_summary, record_size
 use refusals::Refusal;
 
 // What open answers.
-#[derive(Drop)]
+#[derive(Clone, Copy)]
 pub enum OpenAnswer {
     Opened,
     Refused(Refusal),

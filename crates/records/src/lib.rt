@@ -26,13 +26,13 @@ pub const HEADER_SIZE: usize = 3;
 
 // The forms of a record, by their versions. A form is how many racks a record holds, its length, its version and the
 // byte that is hashed before its state; `forms` says them.
-#[derive(Drop)]
+#[derive(Clone, Copy)]
 pub enum Form {
     Version1,
 }
 
 // What the tests of a record's form and state find.
-#[derive(Drop)]
+#[derive(Clone, Copy)]
 pub enum Tested {
     Passed,
     Refused(Refusal),

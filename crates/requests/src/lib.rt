@@ -11,7 +11,7 @@ ghost use Rattle.requests.specs.Requests.{request_of, read_request};
 use form::{byte, well_formed};
 
 // A request, decoded: what is asked of which rack. Every form of a request's bytes gives one of these.
-#[derive(Drop)]
+#[derive(Clone, Copy)]
 pub enum Request {
     Capacity {
         rack: usize,
@@ -33,7 +33,7 @@ pub enum Request {
 }
 
 // What reading a request's bytes gives: the request, or refusal 6.
-#[derive(Drop)]
+#[derive(Clone, Copy)]
 pub enum Reading {
     Formed(Request),
     Malformed,

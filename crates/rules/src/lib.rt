@@ -9,7 +9,7 @@ pub use judging::judge;
 use refusals::Refusal;
 
 // Whether a request may be carried out, or which rule bars it.
-#[derive(Drop)]
+#[derive(Clone, Copy)]
 pub enum Ruling {
     Free,
     Barred(Refusal),

@@ -7,7 +7,7 @@ pub use resuming::choose;
 pub use viewing::view;
 
 // What view answers.
-#[derive(Drop)]
+#[derive(Clone, Copy)]
 pub enum ViewAnswer {
     Seen {
         stored: u32,
@@ -19,7 +19,7 @@ pub enum ViewAnswer {
 }
 
 // Which of its two records resume hands back.
-#[derive(Drop)]
+#[derive(Clone, Copy)]
 pub enum Which {
     Neither,
     Ram,

@@ -7,16 +7,12 @@ use Rattle.requests.proofs.Formed.{formed_form}
 use borrow.Author.Rules.{rules}
 use Rattle.requests.proofs.read_request.Goals as goal
 
--- past the test it is well formed
-formed : (c : tie.Then1) → well_formed c.before.before.before.args.racks c.before.before.before.args.s.now ≡ true
-formed c = sym c.before.well-formed-2.ensures ∙ c.if1.true
-
 pub request_of-requires : goal.request_of-requires
-request_of-requires c = (formed_form _ _ (formed c)).size
+request_of-requires c = (formed_form _ _ (sym c.well_formed-2.ensures ∙ c.if-well_formed.true)).size
 
 pub returns-then-well_formed : goal.returns-then-well_formed
 unfolding read_request
-returns-then-well_formed c = rw (formed c.before, c.request_of.ensures)
+returns-then-well_formed c = rw (sym c.well_formed-2.ensures ∙ c.if-well_formed.true, c.request_of.ensures)
 
 pub returns-else-well_formed : goal.returns-else-well_formed
 unfolding read_request

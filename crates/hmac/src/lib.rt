@@ -1,5 +1,7 @@
 // HMAC-SHA-256 (FIPS 198-1) of a message that lies in two pieces. Each pad is worked out as the hash value that its block
 // leads to, so that the message is never copied; `prepare` does both ahead, and the key then serves several messages.
+#![tactic(auto)]
+
 ghost use Rattle.std.specs.Prelude.{◌≡◌, ◌++◌, ◌+◌, ◌-◌, ◌≤◌, length, replicate};
 ghost use Rattle.sha256.specs.Continued.{sha256_after};
 ghost use Rattle.hmac.specs.Hmac.{B, ipad, opad, ◌⊕◌, hmac};

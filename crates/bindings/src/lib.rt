@@ -1,5 +1,7 @@
 // What is hashed, document 01: the state hash, the next summary and the binding. Each message is hashed in
 // pieces where they lie, behind a byte that says its kind. The authenticator is the MAC of the binding; it seals a record.
+#![tactic(auto)]
+
 mod sealing;
 
 ghost use Rattle.std.specs.Prelude.{◌≡◌, ◌+◌, ◌≤◌, length};

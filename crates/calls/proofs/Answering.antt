@@ -99,16 +99,16 @@ module _ {f : Form} {page l request answer after : List ℕ} {c : Bool} {p : Per
       valid_is : r ≡ valid (design f) page l
       valid_is = valid_prepared f page key prepared l r seven
 
-      pub forged : not r ≡ true → told (Refused Authenticator) page answer ≡ p
+      pub forged : r ≡ false → told (Refused Authenticator) page answer ≡ p
       forged fails = rw (past.0, failed r _ valid_is fails) at call.is
 
       -- t is what test 8 finds
-      module _ (ok : not r ≡ false) {t : Bool} (eight : t ≡ c) where
-        pub stale : not t ≡ true → told (Refused Current) page answer ≡ p
+      module _ (ok : r ≡ true) {t : Bool} (eight : t ≡ c) where
+        pub stale : t ≡ false → told (Refused Current) page answer ≡ p
         stale fails = rw (past.0, passed r _ valid_is ok, failed t c eight fails) at call.is
 
         -- w is the charge rules' ruling
-        module _ (current : not t ≡ false) {w : Ruling} (judgement : w ≡ ruling (state f l) q) where
+        module _ (current : t ≡ true) {w : Ruling} (judgement : w ≡ ruling (state f l) q) where
           served : answered_by (design f) page l request answer after (by_service (in_bytes (by_ruling (ruling (state f l) q) (carry_out (state f l) q)))) ≡ p
           served = rw (past.0, passed r _ valid_is ok, passed t c eight current, served_is f page l request answer q asked) at call.is
 
@@ -126,5 +126,5 @@ module _ {f : Form} {page l request answer after : List ℕ} {c : Bool} {p : Per
               rw (moved, stored, bound, next, ← stored_is f page l request answer q asked free-is) (rw free-is at served)
 
 -- two summaries that were found the same
-pub follows : {t : Bool} {a b : List ℕ} → t ≡ same a b → not t ≡ false → b ≡ a
+pub follows : {t : Bool} {a b : List ℕ} → t ≡ same a b → t ≡ true → b ≡ a
 follows {t} {a} {b} compared holds = sym ((same_iff a b).0 (passed t (same a b) compared holds))

@@ -1,6 +1,8 @@
 // Perform and repeat on lent buffers, for every form of record, which the caller says. The tests are made in the order of
 // their numbers, the record is read where it lies, the answer is written where it goes, and nothing is written before
 // the last test has passed.
+#![tactic(auto)]
+
 mod carrying;
 mod performing;
 mod repeating;

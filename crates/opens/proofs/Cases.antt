@@ -53,14 +53,14 @@ module _ (page answer : List ℕ) where
     open_2 short = rw (by_tests page answer true false _ (eq-eqb (length page) page_size size) (lt-leb (record_size version1) (length answer) short) refl) refl
 
     module _ (room : record_size version1 ≤ length answer) (s : List ℕ) (r : Bool) (is : s ≡ page_summary page) (test : r ≡ same s (replicate (length s) 0)) where
-      pub open_13 : not r ≡ true → told_open (Refused Fresh) page answer ≡ opened this_edition page answer
+      pub open_13 : r ≡ false → told_open (Refused Fresh) page answer ≡ opened this_edition page answer
       open_13 old =
           rw (by_tests page answer true true false (eq-eqb (length page) page_size size) (le-leb (record_size version1) (length answer) room) (failed r _ (zeros page s r size is test) old)) refl
 
-      fresh : not r ≡ false → page_summary page ≡ zero_summary
+      fresh : r ≡ true → page_summary page ≡ zero_summary
       fresh new = (same_iff (page_summary page) zero_summary).0 (passed r _ (zeros page s r size is test) new)
 
-      pub open_0 : not r ≡ false → (after : List ℕ) → after ≡ over 0 (bound_record this_edition page (page_summary page) (bytes_of_state (first_state racks))) answer
+      pub open_0 : r ≡ true → (after : List ℕ) → after ≡ over 0 (bound_record this_edition page (page_summary page) (bytes_of_state (first_state racks))) answer
           → told_open Accepted page after ≡ opened this_edition page answer
       open_0 new after written =
           rw (by_tests page answer true true true (eq-eqb (length page) page_size size) (le-leb (record_size version1) (length answer) room) (passed r _ (zeros page s r size is test) new), written, fresh new) refl

@@ -1,4 +1,6 @@
 // Open: the first record of this edition, with summary zero and its authenticator; the page stays as it is.
+#![tactic(auto)]
+
 ghost use Rattle.std.specs.Prelude.{◌≡◌, [], ◌∷◌, ◌≤◌, length};
 ghost use Rattle.numbers.specs.Parts.{over, join};
 ghost use Rattle.racks.specs.Racks.{first_state};

@@ -51,10 +51,10 @@ module _ (f : Form) (page l : List ℕ) where
       valid_is : r ≡ valid (design f) page l
       valid_is = valid_prepared f page key prepared l r seven
 
-      pub not_valid : not r ≡ true → false ≡ is_good (resume_verdict (design f) page l)
+      pub not_valid : r ≡ false → false ≡ is_good (resume_verdict (design f) page l)
       not_valid fails = current_by true false _ Passed (eq-eqb (length page) page_size size) (sym test ∙ past) (failed r _ valid_is fails) refl
 
-      pub is_current : not r ≡ false → (c : Bool) → c ≡ same (summary f l) (page_summary page) → c ≡ is_good (resume_verdict (design f) page l)
+      pub is_current : r ≡ true → (c : Bool) → c ≡ same (summary f l) (page_summary page) → c ≡ is_good (resume_verdict (design f) page l)
       is_current ok c is =
           good_is c (state_bytes f l) ∙ current_by true true c Passed (eq-eqb (length page) page_size size) (sym test ∙ past) (passed r _ valid_is ok) (sym is)
 

@@ -72,15 +72,15 @@ module _ (f : Form) (page l : List ℕ) (rack : ℕ) {t : Tested} (test : t ≡ 
       valid_is : r ≡ valid (design f) page l
       valid_is = valid_prepared f page key prepared l r seven
 
-      pub view_forged : not r ≡ true → told_view (RefusedView Authenticator) ≡ viewed (design f) page l rack
+      pub view_forged : r ≡ false → told_view (RefusedView Authenticator) ≡ viewed (design f) page l rack
       view_forged fails = rw (past, failed r _ valid_is fails) at viewed_by_lem
 
       -- s is what test 8 finds
-      module _ (ok : not r ≡ false) {s : Bool} (eight : s ≡ same (summary f l) (page_summary page)) where
-        pub view_stale : not s ≡ true → told_view (RefusedView Current) ≡ viewed (design f) page l rack
+      module _ (ok : r ≡ true) {s : Bool} (eight : s ≡ same (summary f l) (page_summary page)) where
+        pub view_stale : s ≡ false → told_view (RefusedView Current) ≡ viewed (design f) page l rack
         view_stale fails = rw (past, passed r _ valid_is ok, failed s _ eight fails) at viewed_by_lem
 
-        pub view_current : {x : Viewed} → not s ≡ false → x ≡ seen_in (state f l) rack → x ≡ viewed (design f) page l rack
+        pub view_current : {x : Viewed} → s ≡ true → x ≡ seen_in (state f l) rack → x ≡ viewed (design f) page l rack
         view_current holds is = is ∙ sym (shown_is f (state_bytes f l) rack) ∙ (rw (past, passed r _ valid_is ok, passed s _ eight holds) at viewed_by_lem)
 
 -- ---- test 12 and the figures

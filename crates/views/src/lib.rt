@@ -1,4 +1,6 @@
 // View and resume on lent buffers, for every form of record, which the caller says. Nothing is written.
+#![tactic(auto)]
+
 mod resuming;
 mod viewing;
 

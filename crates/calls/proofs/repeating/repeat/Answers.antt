@@ -1,0 +1,65 @@
+-- `repeat` meets its contract: as perform, and past the tests the page's summary is the next. Assumes nothing.
+use mathlib.Core.Path.{refl, sym, ◌∙◌}
+use native.Mathlib.Omega.{arith}
+use Rattle.records.specs.Form.{form_of}
+use lib.ListN.{length}
+use Rattle.offers.specs.Offers.{PassedOffer}
+use Rattle.offers.proofs.Passing.{offered-length, offered_request, offered-range, offered-named}
+use Rattle.calls.proofs.CarryingOut.{ready}
+use Rattle.calls.proofs.Answering.{repeats, early, asked, forged, stale, barred, done, follows}
+use borrow.Author.Rules.{rules}
+use Rattle.calls.proofs.repeating.repeat.Goals as goal
+
+-- tests 1 to 6 have passed with the request q
+offer : (f : tie.After-q) → let s = f.before.before.before.before.before.before.before.args in
+    PassedOffer (form_of s.form) (length s.page.now) (length s.answer.now) s.«record».now s.request.now f.q.given.0.0
+offer f =
+    let s = f.before.before.before.before.before.before.before.args in
+    asked (repeats _ s.page.now _ _ s.answer.now) f.before.before.test-offer.ensures f.q.given.1
+
+pub prepared-key-requires : goal.prepared-key-requires
+prepared-key-requires c =
+    (offer f).size
+
+pub valid-requires : goal.valid-requires
+valid-requires c =
+    offered-length _ _ _ _ _ _ (offer f)
+
+pub returns-then-not-valid : goal.returns-then-not-valid
+returns-then-not-valid c =
+    let s = c.args in
+    forged (repeats _ s.page.now _ _ s.answer.now) c.test_offer.ensures c.in-Formed.is c.prepared-key.ensures c.valid.ensures c.if-not-valid.true
+
+pub leads_to-requires : goal.leads_to-requires
+leads_to-requires c =
+    let o = offer f in
+    record { page_len = o.size; record_len = offered-length _ _ _ _ _ _ o; request_len = offered_request _ _ _ _ _ _ o }
+
+pub returns-then-not-leads_to : goal.returns-then-not-leads_to
+returns-then-not-leads_to c =
+    let s = c.args in
+    stale (repeats _ s.page.now _ _ s.answer.now) c.test_offer.ensures c.in-Formed.is c.prepared-key.ensures c.valid.ensures c.if-not-valid.false c.leads_to.ensures c.if-not-leads_to.true
+
+pub judge_record-requires : goal.judge_record-requires
+judge_record-requires c =
+    let o = offer f in
+    record { record_len = offered-length _ _ _ _ _ _ o; named = offered-named _ _ _ _ _ _ o }
+
+pub write_repeated-stored-requires : goal.write_repeated-stored-requires
+write_repeated-stored-requires c =
+    let s = c.args in
+    let o = offer f in
+    let long = offered-length _ _ _ _ _ _ o in
+    record { page_len = o.size; form_in_bounds = o.answer; record_len = long; ready = ready (form_of s.form) s.«record».now _ (omega (arith, long)) (offered-range _ _ _ _ _ _ o) (sym c.judge_record.ensures ∙ c.in-Free.is) }
+
+pub returns-in-Refused : goal.returns-in-Refused
+returns-in-Refused c =
+    early (repeats _ _ _ _ _) c.test_offer.ensures _ c.in-Refused.is
+
+pub returns-in-Barred : goal.returns-in-Barred
+returns-in-Barred c =
+    barred (repeats _ _ _ _ _) c.test_offer.ensures c.in-Formed.is c.prepared-key.ensures c.valid.ensures c.if-not-valid.false c.leads_to.ensures c.if-not-leads_to.false c.judge_record.ensures _ c.in-Barred.is
+
+pub returns-in-Free : goal.returns-in-Free
+returns-in-Free c =
+    done (repeats _ _ _ _ _) c.test_offer.ensures c.in-Formed.is c.prepared-key.ensures c.valid.ensures c.if-not-valid.false c.leads_to.ensures c.if-not-leads_to.false c.judge_record.ensures c.in-Free.is refl (follows c.leads_to.ensures c.if-not-leads_to.false) c.write_repeated-stored.ensures.value c.write_repeated-stored.ensures.answer_after

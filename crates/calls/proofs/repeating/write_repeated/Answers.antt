@@ -1,0 +1,28 @@
+-- `write_repeated` lays the record's pieces, carries the request out there, and seals what stands there. Assumes nothing.
+use mathlib.Core.Path.{ap, ◌∙◌}
+use lib.ListN.{length}
+use Rattle.records.specs.Form.{form_of}
+use Rattle.bindings.proofs.Seals.{length-page_summary}
+use Rattle.calls.proofs.Writing.{ready_there, written}
+use borrow.Author.Rules.{rules}
+use Rattle.calls.proofs.repeating.write_repeated.Goals as goal
+
+pub lay_state-requires : goal.lay_state-requires
+lay_state-requires c =
+    let p = c.requires in
+    record { form_in_bounds = p.1.0; record_len = p.1.1.0; summary_len = ap length c.page_summary.ensures ∙ length-page_summary _ p.0 }
+
+pub carry-stored-requires : goal.carry-stored-requires
+carry-stored-requires c =
+    let s = c.args in
+    let p = c.requires.1 in
+    let wide = ap length c.page_summary.ensures ∙ length-page_summary _ c.requires.page_len in
+    ready_there (form_of s.form) s.«record».now c.page_summary.result.now s.answer.now s.q p.0 p.1.0 wide _ c.lay_state.ensures p.1.1
+
+pub returns : goal.returns
+returns c =
+    let s = c.args in
+    let p = c.requires.1 in
+    let wide = ap length c.page_summary.ensures ∙ length-page_summary _ c.requires.page_len in
+    let done = written (form_of s.form) s.«record».now c.page_summary.result.now s.answer.now s.q p.0 p.1.0 wide _ c.lay_state.ensures _ _ _ _ c.carry-stored.ensures c.seal.ensures in
+    record { answer_after = rw c.page_summary.ensures at done.0; value = done.1.0 }

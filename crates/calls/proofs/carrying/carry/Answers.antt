@@ -10,4 +10,6 @@ carry_out-requires c =
 
 pub returns : goal.returns
 returns c =
-    rw c.state_end-end.ensures.value (carried (form_of c.args.form) c.args.q c.args.answer.now c.requires.form_in_bounds _ _ (rw c.state_end-end.ensures.value at c.carry_out.ensures))
+    let end = c.state_end-end.ensures.value in
+    let done = carried (form_of c.args.form) c.args.q c.args.answer.now c.requires.form_in_bounds _ _ (rw end at c.carry_out.ensures.state_after, rw end at c.carry_out.ensures.value) in
+    record { answer_after = rw end done.0; value = done.1 }

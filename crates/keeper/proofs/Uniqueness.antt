@@ -61,7 +61,7 @@ view_unique κs a r r' s s' p q = view_told r r' (p ∙ sym q)
 
 pub resume_unique : (κs : Lfts 2) (a : Dens κs resume-kinds.ps) (r r' : (res_t resume-kinds.r κs).Denot) (s s' : AtExit (ended_of 2 resume-kinds.ps resume-kinds.r) κs)
     → resume-reads.Post κs a r s → resume-reads.Post κs a r' s'
-    → (r.ref_ptr ≡ r'.ptr) × (r.now ≡ r'.now)
+    → (r.ref_ptr ≡ r'.ref_ptr) × (r.now ≡ r'.now)
 resume_unique κs a r r' s s' p q = (ap (λ (l : Lent). l.at) (p ∙ sym q), ap (λ (l : Lent). l.bytes) (p ∙ sym q))
 
 pub keeper_open_unique : (κs : Lfts 2) (a : Dens κs keeper-open-kinds.ps) (r r' : (res_t keeper-open-kinds.r κs).Denot) (s s' : AtExit (ended_of 2 keeper-open-kinds.ps keeper-open-kinds.r) κs)

@@ -1,5 +1,7 @@
 // The keeper: the five calls of this edition, for callers in Rattle here and for C in `c`. Each takes every content and
 // length of what it is lent; a refusal changes no byte. The form of record is said here: version 1, 16 racks.
+#![tactic(auto)]
+
 mod c;
 
 ghost use Rattle.std.specs.Prelude.{◌≡◌};

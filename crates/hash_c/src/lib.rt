@@ -1,6 +1,8 @@
 // SHA-256 and HMAC-SHA-256 as functions that C calls, for measuring. A slice is passed as a pointer and a
 // length. Each function writes the 32 bytes of its answer to the front of out and returns 0; where a bound is
 // not met, or out has fewer than 32 bytes, it writes nothing and returns 1. The buffers do not overlap.
+#![tactic(auto)]
+
 ghost use Rattle.std.specs.Prelude.{◌≡◌, ◌+◌, leb};
 ghost use Rattle.hash_c.specs.Outcome.{Outcome, hash_outcome, mac_outcome};
 

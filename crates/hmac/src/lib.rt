@@ -9,6 +9,9 @@ ghost use Rattle.hmac.specs.Preparation.{after_block, halves, prepared_of, mac_o
 
 use sha256::{absorb, initial, sha256, sha256_after};
 
+// B: how many bytes a block has; a key that is longer is hashed first.
+const BLOCK_SIZE: usize = 64;
+
 // What a key comes to: the hash values after its inner and its outer pad.
 #[derive(Clone, Copy)]
 pub struct Prepared {
@@ -78,7 +81,7 @@ pub fn hmac(key: &[u8], a: &[u8], b: &[u8]) -> [u8; 32]
     requires b_len_bound { length a.now + length b.now ≤ 65472 }
     ensures { result ≡ hmac key.now (a.now ++ b.now) }
 {
-    if 64 < key.len() {
+    if BLOCK_SIZE < key.len() {
         let hashed = sha256(key, &key[..0], &key[..0]);
         return hmac_short(&hashed, a, b);
     }

@@ -27,6 +27,7 @@ pub enum OpenAnswer {
 }
 
 // Lays the first record at the front of the answer, if the page is fresh.
+#[tactic(auto, using(crate::proofs::Cases::open_1))]
 pub fn open(page: &[u8], answer: &mut [u8]) -> OpenAnswer
     ensures { told_open result page.now answer.new ≡ opened this_edition page.now answer.old }
 {

@@ -12,6 +12,13 @@ const SIZE: usize = 10;
 
 const LENGTH: u16 = 8;
 
+// The kinds of a request, and the one that may have amount 0.
+const FIRST_KIND: usize = 1;
+
+const LAST_KIND: usize = 4;
+
+const CAPACITY_KIND: usize = 1;
+
 // Whether the bytes of s are a request, among so many racks.
 pub(crate) fn well_formed(s: &[u8], racks: usize) -> bool
     ensures { result ≡ well_formed racks s.now }
@@ -21,10 +28,10 @@ pub(crate) fn well_formed(s: &[u8], racks: usize) -> bool
     }
     let kind = byte(s, 3);
     let rack = byte(s, 4);
-    if kind < 1 {
+    if kind < FIRST_KIND {
         return false;
     }
-    if 4 < kind {
+    if LAST_KIND < kind {
         return false;
     }
     if racks <= rack {
@@ -79,7 +86,7 @@ fn right_amount(s: &[u8]) -> bool
     if AMOUNT_LIMIT < amount {
         return false;
     }
-    if kind == 1 {
+    if kind == CAPACITY_KIND {
         return true;
     }
     0 < amount

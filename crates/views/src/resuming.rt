@@ -25,6 +25,7 @@ pub fn choose(page: &[u8], ram: &[u8], disk: &[u8], form: Form) -> Which
 }
 
 // Tests 1, 3, 4, 5 and 7, and the record's summary is the page's.
+#[tactic(auto, using(crate::proofs::Chosen::not_paged))]
 fn is_current(page: &[u8], record: &[u8], form: Form) -> bool
     ensures { result ≡ is_good (resume_verdict (design (form_of form)) page.now «record».now) }
 {

@@ -15,6 +15,9 @@ use racks::{RACK_SIZE, percent, read_rack, total_stored};
 use records::{Form, Tested, state_part};
 use refusals::Refusal;
 
+// The most that four bytes can say.
+const MOST_TOTAL: u64 = 0xFFFF_FFFF;
+
 // The figures of a rack and the total, of a record that is current.
 pub fn view(page: &[u8], record: &[u8], rack: usize, form: Form) -> ViewAnswer
     ensures { told_view result ≡ viewed (design (form_of form)) page.now «record».now rack }
@@ -42,7 +45,7 @@ fn figures(state: &[u8], rack: usize) -> ViewAnswer
     ensures { told_view result ≡ seen_in (state_in state.now) rack }
 {
     let total = total_stored(state);
-    if 0xFFFF_FFFF < total {
+    if MOST_TOTAL < total {
         return ViewAnswer::Refused(Refusal::Total);
     }
     let sum = total as u32;

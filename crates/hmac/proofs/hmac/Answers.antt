@@ -8,10 +8,10 @@ use Rattle.hmac.proofs.Macs.{hmac_long, no_more}
 use borrow.Author.Rules.{rules}
 use Rattle.hmac.proofs.hmac.Goals as goal
 
-pub returns-then-key-gt64 : goal.returns-then-key-gt64
-returns-then-key-gt64 c =
+pub returns-then-key-gt-BLOCK_SIZE : goal.returns-then-key-gt-BLOCK_SIZE
+returns-then-key-gt-BLOCK_SIZE c =
     let s = c.args in
     let m = s.a.now ++ s.b.now in
     c.hmac_short.ensures
     ∙ ap (λ (k : List ℕ). hmac k m) (c.sha256-hashed.ensures ∙ ap sha256 (no_more s.key.now))
-    ∙ hmac_long s.key.now m c.if-key-gt64.true
+    ∙ hmac_long s.key.now m c.if-key-gt-BLOCK_SIZE.true

@@ -1,25 +1,20 @@
 -- The three tests in their order, and then the first record. Assumes nothing.
 use native.Mathlib.Omega.{arith}
-use Rattle.opens.proofs.Cases.{open_1, open_2, open_13, open_0}
+use Rattle.opens.proofs.Cases.{open_2, open_13, open_0}
 use borrow.Author.Rules.{rules}
 use Rattle.opens.proofs.open.Goals as goal
-
-pub returns-then-page-ne-PAGE_SIZE : goal.returns-then-page-ne-PAGE_SIZE
-returns-then-page-ne-PAGE_SIZE c =
-    let s = c.args in
-    open_1 s.page.now s.answer.now c.if-page-ne-PAGE_SIZE.true
 
 pub returns-then-answer-record_size : goal.returns-then-answer-record_size
 returns-then-answer-record_size c =
     let s = c.args in
-    open_2 s.page.now s.answer.now c.if-page-ne-PAGE_SIZE.false (omega (arith, c.if-answer-record_size.true))
+    open_2 s.page.now s.answer.now (omega arith) (omega (arith, c.if-answer-record_size.true))
 
 pub returns-then-not-all_zero : goal.returns-then-not-all_zero
 returns-then-not-all_zero c =
     let s = c.args in
-    open_13 s.page.now s.answer.now c.if-page-ne-PAGE_SIZE.false (omega (arith, c.if-answer-record_size.false)) _ _ c.page_summary.ensures c.all_zero.ensures c.if-not-all_zero.true
+    open_13 s.page.now s.answer.now (omega arith) (omega (arith, c.if-answer-record_size.false)) _ _ c.page_summary.ensures c.all_zero.ensures c.if-not-all_zero.true
 
 pub returns : goal.returns
 returns c =
     let s = c.args in
-    open_0 s.page.now s.answer.now c.if-page-ne-PAGE_SIZE.false (omega (arith, c.if-answer-record_size.false)) _ _ c.page_summary.ensures c.all_zero.ensures c.if-not-all_zero.false _ c.write_first.ensures
+    open_0 s.page.now s.answer.now (omega arith) (omega (arith, c.if-answer-record_size.false)) _ _ c.page_summary.ensures c.all_zero.ensures c.if-not-all_zero.false _ c.write_first.ensures

@@ -12,11 +12,11 @@ returns-then-amount-gt-AMOUNT_LIMIT c =
     let over : amount_limit < c.read32-amount.result = c.if-amount-gt-AMOUNT_LIMIT.true in
     sym (amount_is _ c.byte-kind.ensures c.read32-amount.ensures (lt-leb _ _ over) refl refl)
 
-pub returns-then-kind-eq1 : goal.returns-then-kind-eq1
-returns-then-kind-eq1 c =
-    let sets : c.byte-kind.result ≡ 1 = c.if-kind-eq1.true in
+pub returns-then-kind-eq-CAPACITY_KIND : goal.returns-then-kind-eq-CAPACITY_KIND
+returns-then-kind-eq-CAPACITY_KIND c =
+    let sets : c.byte-kind.result ≡ 1 = c.if-kind-eq-CAPACITY_KIND.true in
     sym (amount_is _ c.byte-kind.ensures c.read32-amount.ensures (le-leb _ _ c.if-amount-gt-AMOUNT_LIMIT.false) (eq-eqb _ _ sets) refl)
 
 pub returns : goal.returns
 returns c =
-    sym (amount_is _ c.byte-kind.ensures c.read32-amount.ensures (le-leb _ _ c.if-amount-gt-AMOUNT_LIMIT.false) (ne_eqb _ _ c.if-kind-eq1.false) refl)
+    sym (amount_is _ c.byte-kind.ensures c.read32-amount.ensures (le-leb _ _ c.if-amount-gt-AMOUNT_LIMIT.false) (ne_eqb _ _ c.if-kind-eq-CAPACITY_KIND.false) refl)

@@ -28,34 +28,34 @@ byte-kind-requires c = omega (arith, size _ _ c.right_form.ensures c.if-not-righ
 pub byte-rack-requires : goal.byte-rack-requires
 byte-rack-requires c = omega (arith, size _ _ c.right_form.ensures c.if-not-right_form.false)
 
-pub returns-then-kind-lt1 : goal.returns-then-kind-lt1
-returns-then-kind-lt1 c =
-    let under : c.byte-kind.result < 1 = c.if-kind-lt1.true in
+pub returns-then-kind-lt-FIRST_KIND : goal.returns-then-kind-lt-FIRST_KIND
+returns-then-kind-lt-FIRST_KIND c =
+    let under : c.byte-kind.result < 1 = c.if-kind-lt-FIRST_KIND.true in
     sym (formed_is _ _ c.byte-kind.ensures c.byte-rack.ensures (passed _ _ c.right_form.ensures c.if-not-right_form.false) (lt-leb _ _ under) refl refl refl refl)
 
-pub returns-then-kind-gt4 : goal.returns-then-kind-gt4
-returns-then-kind-gt4 c =
-    let over : 4 < c.byte-kind.result = c.if-kind-gt4.true in
-    sym (formed_is _ _ c.byte-kind.ensures c.byte-rack.ensures (passed _ _ c.right_form.ensures c.if-not-right_form.false) (le-leb _ _ c.if-kind-lt1.false)
+pub returns-then-kind-gt-LAST_KIND : goal.returns-then-kind-gt-LAST_KIND
+returns-then-kind-gt-LAST_KIND c =
+    let over : 4 < c.byte-kind.result = c.if-kind-gt-LAST_KIND.true in
+    sym (formed_is _ _ c.byte-kind.ensures c.byte-rack.ensures (passed _ _ c.right_form.ensures c.if-not-right_form.false) (le-leb _ _ c.if-kind-lt-FIRST_KIND.false)
     (lt-leb _ _ over) refl refl refl)
 
 pub returns-then-racks-rack : goal.returns-then-racks-rack
 returns-then-racks-rack c =
-    sym (formed_is _ _ c.byte-kind.ensures c.byte-rack.ensures (passed _ _ c.right_form.ensures c.if-not-right_form.false) (le-leb _ _ c.if-kind-lt1.false)
-    (le-leb _ _ c.if-kind-gt4.false) (le-ltb _ _ c.if-racks-rack.true) refl refl)
+    sym (formed_is _ _ c.byte-kind.ensures c.byte-rack.ensures (passed _ _ c.right_form.ensures c.if-not-right_form.false) (le-leb _ _ c.if-kind-lt-FIRST_KIND.false)
+    (le-leb _ _ c.if-kind-gt-LAST_KIND.false) (le-ltb _ _ c.if-racks-rack.true) refl refl)
 
 pub right_other-requires : goal.right_other-requires
 right_other-requires c = size _ _ c.right_form.ensures c.if-not-right_form.false
 
 pub returns-then-not-right_other : goal.returns-then-not-right_other
 returns-then-not-right_other c =
-    sym (formed_is _ _ c.byte-kind.ensures c.byte-rack.ensures (passed _ _ c.right_form.ensures c.if-not-right_form.false) (le-leb _ _ c.if-kind-lt1.false)
-    (le-leb _ _ c.if-kind-gt4.false) (lt-ltb _ _ c.if-racks-rack.false) (failed _ _ c.right_other.ensures c.if-not-right_other.true) refl)
+    sym (formed_is _ _ c.byte-kind.ensures c.byte-rack.ensures (passed _ _ c.right_form.ensures c.if-not-right_form.false) (le-leb _ _ c.if-kind-lt-FIRST_KIND.false)
+    (le-leb _ _ c.if-kind-gt-LAST_KIND.false) (lt-ltb _ _ c.if-racks-rack.false) (failed _ _ c.right_other.ensures c.if-not-right_other.true) refl)
 
 pub right_amount-requires : goal.right_amount-requires
 right_amount-requires c = size _ _ c.right_form.ensures c.if-not-right_form.false
 
 pub returns : goal.returns
 returns c =
-    sym (formed_is _ _ c.byte-kind.ensures c.byte-rack.ensures (passed _ _ c.right_form.ensures c.if-not-right_form.false) (le-leb _ _ c.if-kind-lt1.false)
-    (le-leb _ _ c.if-kind-gt4.false) (lt-ltb _ _ c.if-racks-rack.false) (passed _ _ c.right_other.ensures c.if-not-right_other.false) (sym c.right_amount.ensures))
+    sym (formed_is _ _ c.byte-kind.ensures c.byte-rack.ensures (passed _ _ c.right_form.ensures c.if-not-right_form.false) (le-leb _ _ c.if-kind-lt-FIRST_KIND.false)
+    (le-leb _ _ c.if-kind-gt-LAST_KIND.false) (lt-ltb _ _ c.if-racks-rack.false) (passed _ _ c.right_other.ensures c.if-not-right_other.false) (sym c.right_amount.ensures))

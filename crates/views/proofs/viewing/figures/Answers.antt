@@ -3,10 +3,10 @@ use Rattle.views.proofs.Shown.{view_over, view_seen, seen_good}
 use borrow.Author.Rules.{rules}
 use Rattle.views.proofs.viewing.figures.Goals as goal
 
-pub returns-then-total-gt4294967295 : goal.returns-then-total-gt4294967295
-returns-then-total-gt4294967295 c =
+pub returns-then-total-gt-MOST_TOTAL : goal.returns-then-total-gt-MOST_TOTAL
+returns-then-total-gt-MOST_TOTAL c =
     let s = c.args in
-    view_over _ s.state.now s.rack _ c.total_stored-total.ensures c.if-total-gt4294967295.true
+    view_over _ s.state.now s.rack _ c.total_stored-total.ensures c.if-total-gt-MOST_TOTAL.true
 
 pub percent-full-requires : goal.percent-full-requires
 percent-full-requires c =
@@ -14,4 +14,4 @@ percent-full-requires c =
 
 pub returns : goal.returns
 returns c =
-    view_seen _ c.args.state.now c.args.rack _ _ _ c.total_stored-total.ensures c.if-total-gt4294967295.false c.read_rack-r.ensures c.requires.rack_bound c.percent-full.ensures
+    view_seen _ c.args.state.now c.args.rack _ _ _ c.total_stored-total.ensures c.if-total-gt-MOST_TOTAL.false c.read_rack-r.ensures c.requires.rack_bound c.percent-full.ensures

@@ -1,7 +1,7 @@
 #!/usr/bin/env python3
 """Holds the program crates/vectors to Python's hashlib and hmac, and to its answers where an item is malformed.
 
-    tests/lengths.py [PROGRAM]    PROGRAM is target/bin/vectors unless it is given
+    tests/lengths.py [PROGRAM]    PROGRAM is crates/vectors/out/vectors unless it is given
 
 Messages and keys are random bytes from a fixed seed, so a difference comes again in the next run.
 """

@@ -3,7 +3,7 @@
 
 It stands apart from crates/vectors/stdout, which has whole MACs alone and nothing that was not published.
 
-    tests/rfc4231_case5.py [PROGRAM]    PROGRAM is target/bin/vectors unless it is given
+    tests/rfc4231_case5.py [PROGRAM]    PROGRAM is crates/vectors/out/vectors unless it is given
 """
 
 import pathlib

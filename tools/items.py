@@ -6,7 +6,7 @@ import subprocess
 import sys
 
 ROOT = pathlib.Path(__file__).resolve().parent.parent
-BUILT = ROOT / "target" / "bin" / "vectors"
+BUILT = ROOT / "crates" / "vectors" / "out" / "vectors"
 
 
 def number(n):
@@ -29,7 +29,7 @@ def program(words):
     """The program to run: the one that the words name, or the one that rt built."""
     path = pathlib.Path(words[0]).resolve() if words else BUILT
     if not path.is_file():
-        sys.exit(f"{path} is missing; rt check vectors builds the program")
+        sys.exit(f"{path} is missing; rt run, in crates/vectors, builds the program")
     return path
 
 

@@ -1,9 +1,6 @@
-// A line for each case.
-use libc::STDOUT_FILENO;
+// A line for each case. A line that cannot be written is an error, which ends the run.
+use std::io;
 
-pub(crate) fn say(what: &[u8], number: u32) {
-    io::write_all(STDOUT_FILENO, what);
-    io::write_all(STDOUT_FILENO, b": ");
-    io::print_decimal(STDOUT_FILENO, number as u64);
-    io::write_all(STDOUT_FILENO, b"\n");
+pub(crate) fn say(rt: &impl Print, what: &str, number: u32) -> io::Result<()> {
+    println!(rt; "{what}: {number}")
 }

@@ -1,6 +1,11 @@
-// What the items of the programs' input are made of, read from standard input: a byte that an item begins with, numbers of
+// What the items of the programs' input are made of, read from a reader: a byte that an item begins with, numbers of
 // four bytes, and parts, each behind its length. For `vectors` and `replay`.
-use libc::STDIN_FILENO;
+//
+// An input that ends too soon is an answer, `Tag::End` or `Part::Bad`. A read that fails is an error.
+#![tactic(auto)]
+
+use std::io;
+use std::io::{ErrorKind, Read};
 
 // The byte that an item begins with, unless the input ends before it.
 #[derive(Drop)]
@@ -16,28 +21,46 @@ pub enum Part {
     Bad,
 }
 
-pub fn read_tag() -> Tag {
+pub fn read_tag(input: &mut impl Read) -> io::Result<Tag> {
     let mut byte = [0u8; 1];
-    if io::read_full(STDIN_FILENO, &mut byte) == 0 {
-        return Tag::End;
+    if !fill(input, &mut byte)? {
+        return Ok(Tag::End);
     }
-    Tag::Byte(first(byte))
+    Ok(Tag::Byte(first(byte)))
 }
 
 // Reads a length, and that many bytes into the front of room.
-pub fn read_part(room: &mut [u8]) -> Part {
+pub fn read_part(input: &mut impl Read, room: &mut [u8]) -> io::Result<Part> {
     let mut field = [0u8; 4];
-    if io::read_full(STDIN_FILENO, &mut field) < 4 {
-        return Part::Bad;
+    if !fill(input, &mut field)? {
+        return Ok(Part::Bad);
     }
     let n = length(field);
     if n > room.len() {
-        return Part::Bad;
+        return Ok(Part::Bad);
     }
-    if io::read_full(STDIN_FILENO, &mut room[..n]) < n {
-        return Part::Bad;
+    if !fill(input, &mut room[..n])? {
+        return Ok(Part::Bad);
     }
-    Part::Bytes(n)
+    Ok(Part::Bytes(n))
+}
+
+// A number: four bytes.
+pub fn read_number(input: &mut impl Read) -> io::Result<Part> {
+    let mut field = [0u8; 4];
+    if !fill(input, &mut field)? {
+        return Ok(Part::Bad);
+    }
+    Ok(Part::Bytes(length(field)))
+}
+
+// Fills the buffer, and says whether the input had so many bytes left.
+fn fill(input: &mut impl Read, buf: &mut [u8]) -> io::Result<bool> {
+    match input.read_exact(buf) {
+        Ok(()) => Ok(true),
+        Err(e) if e.kind() == ErrorKind::UnexpectedEof => Ok(false),
+        Err(e) => Err(e),
+    }
 }
 
 fn first(byte: [u8; 1]) -> u8 {
@@ -51,13 +74,4 @@ fn length(field: [u8; 4]) -> usize {
 // The number of four bytes, the first the most significant.
 fn joined(x0: u8, x1: u8, x2: u8, x3: u8) -> usize {
     (x0 as usize) * 16777216 + (x1 as usize) * 65536 + (x2 as usize) * 256 + (x3 as usize)
-}
-
-// A number: four bytes.
-pub fn read_number() -> Part {
-    let mut field = [0u8; 4];
-    if io::read_full(STDIN_FILENO, &mut field) < 4 {
-        return Part::Bad;
-    }
-    Part::Bytes(length(field))
 }

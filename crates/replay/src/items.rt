@@ -2,6 +2,8 @@
 use crate::making::{make_offer, make_open, make_resume, make_view};
 use crate::output::bad;
 use inputs::{Part, Tag, read_number, read_part, read_tag};
+use std::io;
+use std::io::{Read, Write};
 
 // The rooms that buffers are read into: a page, a record or an answer, a request.
 const PAGE: usize = 128;
@@ -11,84 +13,95 @@ const BOOK: usize = 1024;
 const REQUEST: usize = 64;
 
 // One item, whichever comes next. At the end of the input there is nothing to say.
-pub(crate) fn answer_next() -> bool {
-    match read_tag() {
-        Tag::Byte(tag) => answer_item(tag),
-        Tag::End => false,
+pub(crate) fn answer_next(input: &mut impl Read, out: &mut impl Write) -> io::Result<bool> {
+    match read_tag(input)? {
+        Tag::Byte(tag) => answer_item(input, out, tag),
+        Tag::End => Ok(false),
     }
 }
 
-fn answer_item(tag: u8) -> bool {
+fn answer_item(input: &mut impl Read, out: &mut impl Write, tag: u8) -> io::Result<bool> {
     match tag {
-        b'o' => answer_open(),
-        b'p' => answer_offer(false),
-        b'r' => answer_offer(true),
-        b'v' => answer_view(),
-        b'u' => answer_resume(),
-        _ => bad(),
+        b'o' => answer_open(input, out),
+        b'p' => answer_offer(input, out, false),
+        b'r' => answer_offer(input, out, true),
+        b'v' => answer_view(input, out),
+        b'u' => answer_resume(input, out),
+        _ => bad(out),
     }
 }
 
-fn answer_open() -> bool {
+fn answer_open(input: &mut impl Read, out: &mut impl Write) -> io::Result<bool> {
     let mut page = [0u8; PAGE];
-    let Part::Bytes(p) = read_part(&mut page) else {
-        return bad();
+    let Part::Bytes(p) = read_part(input, &mut page)? else {
+        return bad(out);
     };
     let mut answer = [0u8; BOOK];
-    let Part::Bytes(a) = read_part(&mut answer) else {
-        return bad();
+    let Part::Bytes(a) = read_part(input, &mut answer)? else {
+        return bad(out);
     };
-    make_open(&page, p, &mut answer, a)
+    make_open(out, &page, p, &mut answer, a)
 }
 
 // Perform, or repeat.
-fn answer_offer(again: bool) -> bool {
+fn answer_offer(input: &mut impl Read, out: &mut impl Write, again: bool) -> io::Result<bool> {
     let mut page = [0u8; PAGE];
-    let Part::Bytes(p) = read_part(&mut page) else {
-        return bad();
+    let Part::Bytes(p) = read_part(input, &mut page)? else {
+        return bad(out);
     };
     let mut record = [0u8; BOOK];
-    let Part::Bytes(l) = read_part(&mut record) else {
-        return bad();
+    let Part::Bytes(l) = read_part(input, &mut record)? else {
+        return bad(out);
     };
     let mut request = [0u8; REQUEST];
-    let Part::Bytes(q) = read_part(&mut request) else {
-        return bad();
+    let Part::Bytes(q) = read_part(input, &mut request)? else {
+        return bad(out);
     };
     let mut answer = [0u8; BOOK];
-    let Part::Bytes(a) = read_part(&mut answer) else {
-        return bad();
+    let Part::Bytes(a) = read_part(input, &mut answer)? else {
+        return bad(out);
     };
-    make_offer(again, &mut page, p, &record, l, &request, q, &mut answer, a)
+    make_offer(
+        out,
+        again,
+        &mut page,
+        p,
+        &record,
+        l,
+        &request,
+        q,
+        &mut answer,
+        a,
+    )
 }
 
-fn answer_view() -> bool {
+fn answer_view(input: &mut impl Read, out: &mut impl Write) -> io::Result<bool> {
     let mut page = [0u8; PAGE];
-    let Part::Bytes(p) = read_part(&mut page) else {
-        return bad();
+    let Part::Bytes(p) = read_part(input, &mut page)? else {
+        return bad(out);
     };
     let mut record = [0u8; BOOK];
-    let Part::Bytes(l) = read_part(&mut record) else {
-        return bad();
+    let Part::Bytes(l) = read_part(input, &mut record)? else {
+        return bad(out);
     };
-    let Part::Bytes(rack) = read_number() else {
-        return bad();
+    let Part::Bytes(rack) = read_number(input)? else {
+        return bad(out);
     };
-    make_view(&page, p, &record, l, rack)
+    make_view(out, &page, p, &record, l, rack)
 }
 
-fn answer_resume() -> bool {
+fn answer_resume(input: &mut impl Read, out: &mut impl Write) -> io::Result<bool> {
     let mut page = [0u8; PAGE];
-    let Part::Bytes(p) = read_part(&mut page) else {
-        return bad();
+    let Part::Bytes(p) = read_part(input, &mut page)? else {
+        return bad(out);
     };
     let mut ram = [0u8; BOOK];
-    let Part::Bytes(r) = read_part(&mut ram) else {
-        return bad();
+    let Part::Bytes(r) = read_part(input, &mut ram)? else {
+        return bad(out);
     };
     let mut disk = [0u8; BOOK];
-    let Part::Bytes(d) = read_part(&mut disk) else {
-        return bad();
+    let Part::Bytes(d) = read_part(input, &mut disk)? else {
+        return bad(out);
     };
-    make_resume(&page, p, &ram, r, &disk, d)
+    make_resume(out, &page, p, &ram, r, &disk, d)
 }

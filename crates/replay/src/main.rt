@@ -18,19 +18,26 @@
 //     u which page ram disk part
 //
 // An item that is cut short, that does not fit its room or that begins with another byte is answered by the line `bad`,
-// and the run ends there.
+// and the run ends there. A read or a write that fails ends the run with an error.
+#![tactic(auto)]
+
 mod items;
 mod lines;
 mod making;
 mod output;
 
 use items::answer_next;
+use std::io;
 
-// A proved loop has to end, and nothing says that the input does. So the loop counts its turns down, from a number that
-// no run uses up.
-fn main() {
-    let mut turns = u64::MAX;
-    while turns > 0 && answer_next() {
-        turns -= 1;
+// A proved loop has to end, and nothing says that the input does. So the loop has a last turn, whose number no run
+// reaches. Neither stream has a buffer that outlives a call: each line is out before the next item is read.
+fn main(rt: HostRuntime) -> io::Result<()> {
+    let mut input = rt.stdin();
+    let mut out = rt.stdout();
+    for _ in 0..u64::MAX {
+        if !answer_next(&mut input, &mut out)? {
+            break;
+        }
     }
+    Ok(())
 }

@@ -1,7 +1,8 @@
-// The lines, written to standard output, a field at a time. A function says whether it could be written.
+// The lines, a field at a time, each written whole. A field that cannot be written is an error, which ends the run.
 ghost use Rattle.std.specs.Prelude.{◌<◌, ◌≤◌, length};
 
-use libc::STDOUT_FILENO;
+use std::io;
+use std::io::{Error, ErrorKind, Write};
 
 // How many bytes a field may have, and how long it then is.
 const MOST: usize = 1024;
@@ -9,38 +10,38 @@ const MOST: usize = 1024;
 const TEXT: usize = 2 * MOST + 1;
 
 // The letter that a line begins with.
-pub(crate) fn begin(letter: &[u8]) -> bool {
-    io::write_all(STDOUT_FILENO, letter)
+pub(crate) fn begin(out: &mut impl Write, letter: &[u8]) -> io::Result<()> {
+    out.write_all(letter)
 }
 
 // A number, eight digits.
-pub(crate) fn put_number(n: u32) -> bool {
+pub(crate) fn put_number(out: &mut impl Write, n: u32) -> io::Result<()> {
     let bytes = [
         last_byte(n / 16777216),
         last_byte(n / 65536),
         last_byte(n / 256),
         last_byte(n),
     ];
-    put_bytes(&bytes)
+    put_bytes(out, &bytes)
 }
 
 fn last_byte(n: u32) -> u8 {
     (n % 256) as u8
 }
 
-// A buffer, two digits a byte.
-pub(crate) fn put_bytes(s: &[u8]) -> bool {
+// A buffer, two digits a byte. None of the rooms has more bytes than a field may have.
+pub(crate) fn put_bytes(out: &mut impl Write, s: &[u8]) -> io::Result<()> {
     if s.len() == 0 {
-        return io::write_all(STDOUT_FILENO, b" -");
+        return out.write_all(b" -");
     }
     if s.len() > MOST {
-        return false;
+        return Err(Error::new(ErrorKind::InvalidInput, "a buffer is too long for a field"));
     }
-    put_digits(s)
+    put_digits(out, s)
 }
 
 // A blank and the digits.
-fn put_digits(s: &[u8]) -> bool
+fn put_digits(out: &mut impl Write, s: &[u8]) -> io::Result<()>
     requires { length s.now ≤ 1024 }
 {
     let mut text = [b' '; TEXT];
@@ -50,18 +51,19 @@ fn put_digits(s: &[u8]) -> bool
         text[2 * i + 2] = low(s[i]);
         i += 1;
     }
-    io::write_all(STDOUT_FILENO, &text[..2 * i + 1])
+    out.write_all(&text[..2 * i + 1])
 }
 
-// The line's end.
-pub(crate) fn end() -> bool {
-    io::write_all(STDOUT_FILENO, b"\n")
+// The line's end, after which the run goes on.
+pub(crate) fn end(out: &mut impl Write) -> io::Result<bool> {
+    out.write_all(b"\n")?;
+    Ok(true)
 }
 
 // The line for an item that cannot be answered, which ends the run.
-pub(crate) fn bad() -> bool {
-    io::write_all(STDOUT_FILENO, b"bad\n");
-    false
+pub(crate) fn bad(out: &mut impl Write) -> io::Result<bool> {
+    out.write_all(b"bad\n")?;
+    Ok(false)
 }
 
 fn high(x: u8) -> u8 {

@@ -1,18 +1,20 @@
-// The lines, written to standard output.
+// The lines, each written whole. A line that cannot be written is an error, which ends the run.
 ghost use Rattle.std.specs.Prelude.{◌<◌};
 
-use libc::STDOUT_FILENO;
+use std::io;
+use std::io::Write;
 
-// A line for an answer. The run goes on if the line could be written.
-pub(crate) fn put(answer: [u8; 32]) -> bool {
+// A line for an answer, after which the run goes on.
+pub(crate) fn put(out: &mut impl Write, answer: [u8; 32]) -> io::Result<bool> {
     let text = line(answer);
-    io::write_all(STDOUT_FILENO, &text)
+    out.write_all(&text)?;
+    Ok(true)
 }
 
 // The line for an item that cannot be answered, which ends the run.
-pub(crate) fn bad() -> bool {
-    io::write_all(STDOUT_FILENO, b"bad\n");
-    false
+pub(crate) fn bad(out: &mut impl Write) -> io::Result<bool> {
+    out.write_all(b"bad\n")?;
+    Ok(false)
 }
 
 // Two digits for each byte, and the line's end, which every place holds before the digits are put.

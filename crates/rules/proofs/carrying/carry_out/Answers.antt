@@ -1,5 +1,6 @@
 -- `carry_out` meets its contract: kinds 1 to 3 put one rack, and a move puts two, one after the other. Assumes nothing.
 use mathlib.Core.Path.{refl}
+use Rattle.numbers.specs.Numbers.{Bytes}
 use Rattle.rules.proofs.Rulings.{free_charge, free_discharge, free_move}
 use Rattle.rules.proofs.InPlace.{holds, carried_one, halfway, carried_move}
 use borrow.Author.Rules.{rules}
@@ -50,6 +51,7 @@ returns-in-Discharge c =
 pub returns-in-Move : goal.returns-in-Move
 returns-in-Move c =
     let kind = c.in-Move.is in
+    let bytes : Bytes c.charge-in-Move.new.state = λ i. search rules in
     let ready = rw kind at c.requires in
-    let d = carried_move _ _ _ _ _ _ ready c.discharge-left.auto.state c.discharge-left.ensures _ _ (λ i. (c.type_inv.state i).fits) c.charge-in-Move.auto.state c.charge-in-Move.ensures in
+    let d = carried_move _ _ _ _ _ _ ready c.discharge-left.auto.state c.discharge-left.ensures _ _ bytes c.charge-in-Move.auto.state c.charge-in-Move.ensures in
     record { state_after = rw kind d.0; value = rw kind d.1 }

@@ -2,12 +2,12 @@
 ghost use Rattle.std.specs.Prelude.{◌<◌, ◌≤◌, length};
 
 use std::io;
-use std::io::{Error, ErrorKind, Write};
+use std::io::Write;
 
-// How many bytes a field may have, and how long it then is.
+// How many bytes are written at once, and how many digits they have.
 const MOST: usize = 1024;
 
-const TEXT: usize = 2 * MOST + 1;
+const TEXT: usize = 2 * MOST;
 
 // The letter that a line begins with.
 pub(crate) fn begin(out: &mut impl Write, letter: &[u8]) -> io::Result<()> {
@@ -29,29 +29,34 @@ fn last_byte(n: u32) -> u8 {
     (n % 256) as u8
 }
 
-// A buffer, two digits a byte. None of the rooms has more bytes than a field may have.
+// A blank and a buffer, two digits a byte, or a dash where it is empty.
 pub(crate) fn put_bytes(out: &mut impl Write, s: &[u8]) -> io::Result<()> {
     if s.len() == 0 {
         return out.write_all(b" -");
     }
-    if s.len() > MOST {
-        return Err(Error::new(ErrorKind::InvalidInput, "a buffer is too long for a field"));
+    out.write_all(b" ")?;
+    let mut at = 0;
+    while at < s.len() {
+        let rest = s.len() - at;
+        let n = if rest < MOST { rest } else { MOST };
+        put_digits(out, &s[at..at + n])?;
+        at += n;
     }
-    put_digits(out, s)
+    Ok(())
 }
 
-// A blank and the digits.
+// The digits.
 fn put_digits(out: &mut impl Write, s: &[u8]) -> io::Result<()>
     requires { length s.now ≤ 1024 }
 {
     let mut text = [b' '; TEXT];
     let mut i = 0;
     while i < s.len() {
-        text[2 * i + 1] = high(s[i]);
-        text[2 * i + 2] = low(s[i]);
+        text[2 * i] = high(s[i]);
+        text[2 * i + 1] = low(s[i]);
         i += 1;
     }
-    out.write_all(&text[..2 * i + 1])
+    out.write_all(&text[..2 * i])
 }
 
 // The line's end, after which the run goes on.

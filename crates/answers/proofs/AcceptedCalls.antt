@@ -1,7 +1,7 @@
 -- An accepted open, perform and repeat, for every key and every summary of 32 bytes, in buffers. The idea: the first state, bound to the summary, is a
 -- record that passes all tests, and a request that sets rack 0's capacity to 5 is carried out on it. Assumes nothing.
 use mathlib.Core.Path.{◌≡◌, sym, ap, ◌∙◌}
-use Prim.Native.Nat.{ℕ, ◌≤◌, ◌<◌}
+use Prim.Native.Nat.{ℕ, ◌≤◌}
 use native.Mathlib.Omega.{arith}
 use mathlib.Core.List.{List}
 use lib.ListN.{length, replicate, length-replicate}

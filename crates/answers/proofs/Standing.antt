@@ -2,7 +2,7 @@
 -- passes the tests 3, 4 and 5, and its summary is the page's. Assumes nothing.
 use mathlib.Core.Path.{◌≡◌, sym, ap, ◌∙◌}
 use mathlib.Core.Bool.{true}
-use Prim.Native.Nat.{ℕ, ◌-◌}
+use Prim.Native.Nat.{ℕ}
 use mathlib.Core.List.{List}
 use lib.ListN.{length}
 use borrow.Author.Tests.{eqb-true, eq-eqb}
@@ -12,7 +12,7 @@ use Rattle.racks.specs.Layout.{bytes_of_state}
 use Rattle.records.proofs.FormLaws.{Fits}
 use Rattle.records.specs.Form.{Form}
 use Rattle.records.specs.declared.Tested.TheVariants.{Passed}
-use Rattle.records.specs.Page.{hash_size, page_size, page_summary, zero_summary}
+use Rattle.records.specs.Page.{hash_size, page_size, zero_summary}
 use Rattle.records.specs.Record.{summary, state_bytes}
 use Rattle.records.specs.Tests.{tested}
 use Rattle.answers.specs.Design.{Design}

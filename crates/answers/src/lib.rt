@@ -1,1 +1,3 @@
+#![tactic(auto)]
+
 // What each of the five calls answers, as definitions alone: the calls' contracts and the histories cite them.

@@ -1,7 +1,7 @@
 -- What perform and repeat answer, by their tests in the order of the numbers, in the design of a form.
 -- The idea: what a test found is put in the place of the test, and past them all stands what was written. Assumes nothing.
 use mathlib.Core.Path.{◌≡◌, refl, sym, ap, ap₂, ◌∙◌}
-use mathlib.Core.Bool.{Bool, true, false, not}
+use mathlib.Core.Bool.{Bool, true, false}
 use Prim.Native.Nat.{ℕ}
 use mathlib.Core.List.{List}
 use lib.ListN.{length}

@@ -6,14 +6,13 @@ use mathlib.Core.List.Memᴰ
 use mathlib.Core.List.{List, [], ◌∷◌, ◌++◌, Memᴰ}
 use Rattle.answers.specs.Design.{Design}
 use Rattle.answers.specs.Judging.{resume_verdict}
-use Rattle.answers.specs.Answers.{Resumed, resumed}
 use Rattle.histories.specs.Calls.{performs, views, resumes}
 use Rattle.histories.specs.Did.{Did, record_messages, did}
-use Rattle.histories.specs.Runs.{Step, Run, call_of, Fresh, page_after, done_by, in_run, answered_before, moved_before}
+use Rattle.histories.specs.Runs.{Step, Run, Fresh, page_after, done_by, answered_before, moved_before}
 use Rattle.histories.specs.Laws.{Laws}
-use Rattle.histories.specs.Premises.{Apart, Unforged, FewerPremises}
+use Rattle.histories.specs.Premises.{Unforged, FewerPremises}
 use Rattle.histories.specs.Statements.{Replayed, PerformedAreReplayed, ViewedAreReplayed, ResumedAreReplayed, AnsweredAreReplayed}
-use Rattle.histories.specs.Ties.{handed_back, DidByNumber, NumberLaws}
+use Rattle.histories.specs.Ties.{NumberLaws}
 use Rattle.histories.proofs.Paths.{Within}
 use Rattle.histories.proofs.Verdicts.{good_past, resume_fits, view_accepted, ram_good}
 use Rattle.histories.proofs.Invariant.{needed_in, stands_after, tree_after, rests_on, rests_here}

@@ -18,7 +18,7 @@ use Rattle.histories.specs.Laws.{Laws}
 use Rattle.histories.specs.Premises.{Apart, Unforged}
 use Rattle.histories.proofs.Paths.{Within, end_of, Walked, length_end, onto, end_onto, walked_onto, given, given_onto, one_path, one_state}
 use Rattle.histories.proofs.Steps.{each_before}
-use Rattle.histories.proofs.Inversions.{Based, OriginBased, Taken, Led, Answered, Moved, stays, moves, deed, moved_step}
+use Rattle.histories.proofs.Inversions.{Based, OriginBased, Answered, Moved, stays, moves, deed, moved_step}
 
 -- the messages that the argument needs of a run
 abbrev pub needed_in : Design → List ℕ → Run → List (List ℕ)

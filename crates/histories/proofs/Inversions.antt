@@ -1,7 +1,7 @@
 -- What can be read off what a call did: of a record taken, that it fits the page and that the call relied on it and needed its messages;
 -- of an answer, from which origin and along which requests it was led to; of the page, whether and where it was moved. The idea: what
 -- leaves the page and answers nothing is taken apart once, and so is an answer along a row. Assumes nothing.
-use mathlib.Core.Path.{◌≡◌, refl, ap, ◌∙◌}
+use mathlib.Core.Path.{◌≡◌, refl}
 use mathlib.Core.Bool.{true}
 use mathlib.Core.Logic.{⊎_elim}
 use Prim.Native.Nat.{ℕ}
@@ -9,14 +9,13 @@ use mathlib.Core.List.Memᴰ
 use mathlib.Core.List.{List, [], ◌∷◌, ◌++◌, Memᴰ}
 use Rattle.records.specs.declared.Tested.{Tested}
 use Rattle.records.specs.declared.Tested.TheVariants.{Passed, Refused}
-use Rattle.bindings.specs.Hashed.{summary_message}
 use Rattle.answers.specs.Design.{Design, Served}
 use Rattle.answers.specs.Hashing.{next_summary, bound_message, binding_of}
 use Rattle.answers.specs.Rows.{summary_along, messages_along, served_along, Origin, origin_summary, origin_state}
 use Rattle.answers.specs.Judging.{Verdict, early, forged, stale, barred, good, perform_verdict, repeat_verdict, view_verdict, resume_verdict}
 use Rattle.answers.specs.Answers.{open_tests, opened_by, opened, answered_by, performed, repeated}
 use Rattle.histories.specs.Calls.{Call, opens, performs, repeats, views, resumes}
-use Rattle.histories.specs.Did.{Did, record_messages, nothing, hashes, tries, finds, relies, takes, answers, both, open_did, perform_did, repeat_did, look_did, resume_did, did}
+use Rattle.histories.specs.Did.{Did, record_messages, nothing, tries, finds, relies, takes, answers, both, open_did, perform_did, repeat_did, look_did, resume_did, did}
 use Rattle.histories.specs.Runs.{Step, whole, cut_before, cut_after, call_of, page_after_step, moved_by}
 use Rattle.histories.proofs.Paths.{Within}
 use Rattle.histories.proofs.Verdicts.{past, Fits, perform_fits, repeat_tests, view_fits, resume_fits, perform_good, repeat_good}

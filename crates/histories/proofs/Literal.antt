@@ -4,7 +4,7 @@ use mathlib.Core.Path.{◌≡◌, refl}
 use mathlib.Core.Logic.{⊎_elim}
 use Prim.Native.Nat.{ℕ}
 use mathlib.Core.List.Memᴰ
-use mathlib.Core.List.{List, [], ◌∷◌, ◌++◌, Memᴰ}
+use mathlib.Core.List.{List, [], ◌∷◌, ◌++◌}
 use Rattle.records.specs.declared.Tested.{Tested}
 use Rattle.records.specs.declared.Tested.TheVariants.{Passed, Refused}
 use Rattle.answers.specs.Design.{Design}
@@ -13,7 +13,7 @@ use Rattle.answers.specs.Answers.{open_tests}
 use Rattle.histories.specs.Calls.{Call, opens, performs, repeats, views, resumes}
 use Rattle.histories.specs.Did.{Did, both, open_did, perform_did, repeat_did, look_did, resume_did, did}
 use Rattle.histories.specs.Runs.{Run, call_of, page_after, done_by, in_run}
-use Rattle.histories.specs.Premises.{Apart, Premises, FewerPremises, HashPremise, FewerHashPremise}
+use Rattle.histories.specs.Premises.{Premises, FewerPremises, HashPremise, FewerHashPremise}
 use Rattle.histories.proofs.Paths.{Within}
 use Rattle.histories.proofs.Steps.{each_implies}
 use Rattle.histories.proofs.Invariant.{needed_in}

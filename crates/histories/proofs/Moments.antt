@@ -2,13 +2,13 @@
 -- the whole run, and its findings are findings of the run. Assumes nothing.
 use mathlib.Core.Path.{◌≡◌, sym, ◌∙◌}
 use Prim.Native.Nat.{ℕ}
-use mathlib.Core.List.{List, [], ◌∷◌, ◌++◌, Memᴰ}
+use mathlib.Core.List.{List, [], ◌∷◌, ◌++◌}
 use lib.Seq.{append_snoc}
-use Rattle.answers.specs.Design.{Design, Served}
+use Rattle.answers.specs.Design.{Design}
 use Rattle.histories.specs.Runs.{Step, Run, call_of, Fresh, page_after, done_by, answered_before, moved_before}
 use Rattle.histories.specs.Laws.{Laws}
 use Rattle.histories.specs.Premises.{FewerPremises}
-use Rattle.histories.specs.Statements.{Replayed, TakenAreReplayed}
+use Rattle.histories.specs.Statements.{TakenAreReplayed}
 use Rattle.histories.proofs.Paths.{Within}
 use Rattle.histories.proofs.Steps.{each_before, gathered-before, gathered-at}
 use Rattle.histories.proofs.Inversions.{deed}

@@ -12,7 +12,7 @@ use Rattle.records.specs.Page.{zero_summary}
 use Rattle.answers.specs.Design.{Design}
 use Rattle.answers.specs.Hashing.{binding_in}
 use Rattle.histories.specs.Did.{Did}
-use Rattle.histories.specs.Runs.{Step, Run, done_by, answered_before}
+use Rattle.histories.specs.Runs.{Run, done_by, answered_before}
 use Rattle.histories.specs.Premises.{Apart, Unforged}
 use Rattle.histories.proofs.Steps.{each_none, each_more}
 

@@ -1,6 +1,6 @@
 -- What holds at each step of a list of steps, and what they did, taken apart: one step more, and those before a moment. Of any kind of
 -- step. Assumes nothing.
-use mathlib.Core.Path.{◌≡◌, refl, sym, ap, ◌∙◌}
+use mathlib.Core.Path.{◌≡◌, sym, ap, ◌∙◌}
 use mathlib.Core.List.Memᴰ
 use mathlib.Core.List.{List, [], ◌∷◌, ◌++◌, append_assoc, nil≢cons, Memᴰ}
 use Rattle.histories.specs.Folds.{gathered, AtEach}

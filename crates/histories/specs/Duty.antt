@@ -10,7 +10,7 @@ use Rattle.answers.specs.Answers.{refusal, Performed, performed, repeated}
 use Rattle.answers.specs.Written.{front}
 use Rattle.histories.specs.Folds.{AtEach}
 use Rattle.histories.specs.Calls.{performs}
-use Rattle.histories.specs.Runs.{Step, cut_before, cut_after, Run, call_of, page_after, moved_before}
+use Rattle.histories.specs.Runs.{cut_before, cut_after, Run, call_of, page_after, moved_before}
 
 -- accepted, with the figure and the page of the uncut call, and its record at the front of this buffer
 pub record Retried (D : Design) (uncut : Performed) (room : List ℕ) (p : Performed) : Type 0 where

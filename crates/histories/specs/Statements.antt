@@ -14,7 +14,7 @@ use Rattle.answers.specs.Answers.{performed, viewed, Resumed, resumed}
 use Rattle.histories.specs.Folds.{AtEach}
 use Rattle.histories.specs.Calls.{performs, views, resumes}
 use Rattle.histories.specs.Did.{record_messages}
-use Rattle.histories.specs.Runs.{Run, call_of, page_after, done_by, in_run, answered_before, moved_before}
+use Rattle.histories.specs.Runs.{Run, call_of, page_after, done_by, answered_before, moved_before}
 use Rattle.histories.specs.Premises.{Apart}
 
 -- the requests that moved the page, in order

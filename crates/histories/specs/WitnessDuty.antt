@@ -3,7 +3,7 @@
 use Rattle.std.specs.Prelude.{◌≡◌, refl, ℕ, List, [], ◌∷◌, ◌++◌}
 use Rattle.answers.specs.Answers.{refusal, Performed, performed, repeated}
 use Rattle.histories.specs.Calls.{opens, performs, repeats, views, resumes}
-use Rattle.histories.specs.Runs.{Step, whole, cut_before, cut_after, Run, page_after, moved_before}
+use Rattle.histories.specs.Runs.{whole, cut_before, cut_after, Run, page_after, moved_before}
 use Rattle.histories.specs.Toy.{toy, a, b, c, e, summary_ab, key, fresh, page_a, room, record_0, record_a, record_ab, record_forged, computing}
 
 -- before the cut call: the capacity is set; the call charges 60

@@ -9,7 +9,6 @@ use lib.Dec.{eqb, ltb}
 use borrow.Author.Tests.{eqb-true, ne_eqb, le-ltb, lt-ltb}
 use native.Mathlib.Nat.{lt_of_not-le}
 use native.Mathlib.Decide.{dec_le}
-use Rattle.sha256.specs.Parsing.{block}
 use Rattle.sha256.specs.Computation.{hashes, sha256}
 use Rattle.sha256.specs.Continued.{sha256_after}
 use Rattle.sha256.proofs.ContinuedLaws.{sha256_after_lem}

@@ -9,7 +9,7 @@ use Rattle.refusals.specs.declared.Refusal.{Refusal}
 use Rattle.refusals.specs.declared.Refusal.TheVariants.{Page, Answer, Record, Version, State, Request, Authenticator, Current, Capacity, Stored, Limit, Total, Fresh}
 use Rattle.refusals.specs.Numbers.{number_of}
 use Rattle.answers.specs.Design.{Figures}
-use Rattle.answers.specs.Answers.{Outcome, Performed, Viewed, Resumed}
+use Rattle.answers.specs.Answers.{Outcome, Performed, Viewed}
 use Rattle.opens.specs.declared.OpenAnswer.{OpenAnswer}
 use Rattle.opens.specs.declared.OpenAnswer.TheVariants.{Opened, Refused as RefusedOpen}
 use Rattle.opens.specs.Told.{open_number_told, told_open}

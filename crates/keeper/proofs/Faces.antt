@@ -1,10 +1,8 @@
 -- What a C caller gets, from what the calls of the same names answer: each case of an enum gives its number or its figure.
 -- Assumes nothing.
-use mathlib.Core.Path.{◌≡◌, refl, sym, ap, ◌∙◌}
+use mathlib.Core.Path.{◌≡◌, sym, ap, ◌∙◌}
 use Prim.Native.Nat.{ℕ}
-use mathlib.Core.List.{List, []}
-use Rattle.refusals.specs.declared.Refusal.{Refusal}
-use Rattle.refusals.specs.Numbers.{number_of}
+use mathlib.Core.List.{List}
 use Rattle.answers.specs.Answers.{Outcome, Performed, Viewed, Resumed, resumed_number}
 use Rattle.opens.specs.declared.OpenAnswer.{OpenAnswer}
 use Rattle.opens.specs.Told.{open_number_told, told_open}
@@ -12,7 +10,7 @@ use Rattle.calls.specs.declared.PerformAnswer.{PerformAnswer}
 use Rattle.calls.specs.Told.{number_told, told}
 use Rattle.views.specs.declared.ViewAnswer.{ViewAnswer}
 use Rattle.views.specs.declared.Which.{Which}
-use Rattle.views.specs.Told.{view_number_told, figures_told, told_view, told_which}
+use Rattle.views.specs.Told.{told_view, told_which}
 use Rattle.keeper.specs.Lent.{Lent, handed_back}
 use Rattle.keeper.specs.Numbers.{perform_outcome}
 

@@ -3,7 +3,6 @@
 -- exit. Open and repeat are lent the page by `&`: a clause sees it at exit as it was passed, so that what it held at entry is what it
 -- holds at exit, and their `ensures` reads it at entry. Assumes nothing.
 use mathlib.Core.Path.{◌≡◌, refl, sym, ap, ◌∙◌}
-use Prim.Native.Nat.{ℕ}
 use contract.Lifetimes.{Lfts}
 use denote.Triple.Clauses.{Lasts, AtExit, at_exit}
 use borrow.Fn.Kinds.{Dens, ended_of, res_t}

@@ -13,8 +13,6 @@ use Rattle.answers.specs.Judging.{offered}
 use Rattle.answers.specs.Answers.{Performed}
 use Rattle.answers.specs.Edition.{design, served_bytes}
 use Rattle.memoir.specs.Storage.{LL1UntrustedStorageType, LL1TrustedStorageType, LL1Vars}
-use Rattle.memoir.specs.PerformOperation as Perform
-use Rattle.memoir.specs.RepeatOperation as Repeat
 
 -- a record, and a page, as the report's storage
 abbrev pub storage_in : Form → List ℕ → LL1UntrustedStorageType

@@ -2,7 +2,7 @@
 -- operation.' The names of its LET, its two enablement conditions and its effects, in the report's order. Assumes nothing.
 use Rattle.std.specs.Prelude.{◌≡◌, true, ℕ}
 use mathlib.Core.List.{List, ◌∷◌, Memᴰ}
-use Rattle.memoir.specs.Primitives.{HashDomain, HashType, InputType, PublicStateType, PrivateStateEncType, ServiceResult, Constants}
+use Rattle.memoir.specs.Primitives.{HashType, InputType, PublicStateType, PrivateStateEncType, ServiceResult, Constants}
 use Rattle.memoir.specs.Storage.{LL1UntrustedStorageType, LL1TrustedStorageType, LL1Vars}
 
 -- LET

@@ -3,8 +3,8 @@
 -- NVRAM, which stays. Assumes nothing.
 use Rattle.std.specs.Prelude.{◌≡◌, true, ℕ}
 use mathlib.Core.List.{List, ◌∷◌, Memᴰ}
-use Rattle.memoir.specs.Primitives.{HashDomain, HashType, InputType, PublicStateType, PrivateStateEncType, ServiceResult, Constants}
-use Rattle.memoir.specs.Storage.{LL1UntrustedStorageType, LL1TrustedStorageType, LL1Vars}
+use Rattle.memoir.specs.Primitives.{HashType, InputType, PublicStateType, PrivateStateEncType, ServiceResult, Constants}
+use Rattle.memoir.specs.Storage.{LL1UntrustedStorageType, LL1Vars}
 
 -- LET
 

@@ -3,7 +3,7 @@
 -- l + 1 + k ≡ 448 mod 512, then l as a 64-bit number. `k` is that solution in closed form: `k_solves` and `k_least` say so in
 -- the standard's words. The bit 1 and the first seven of the k zero bits are the byte 0x80; the others are whole bytes, which
 -- `k-bytes` says. Assumes nothing.
-use Rattle.std.specs.Prelude.{◌≡◌, ℕ, zero, suc, ◌+◌, ◌-◌, ◌*◌, ◌/◌, ◌%◌, ◌^◌, ◌≤◌, List, [], ◌∷◌, ◌++◌, length, replicate}
+use Rattle.std.specs.Prelude.{◌≡◌, ℕ, ◌+◌, ◌-◌, ◌*◌, ◌/◌, ◌%◌, ◌≤◌, List, ◌∷◌, ◌++◌, length, replicate}
 use Rattle.numbers.specs.Numbers.{bytes_of}
 use Rattle.std.proofs.Common.{arith}
 

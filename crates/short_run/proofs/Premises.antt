@@ -5,7 +5,7 @@ use mathlib.Core.Path.{◌≡◌, refl}
 use mathlib.Core.Bool.{true}
 use Prim.Native.Nat.{ℕ}
 use mathlib.Core.List.Memᴰ
-use mathlib.Core.List.{List, [], ◌∷◌, ◌++◌, Memᴰ}
+use mathlib.Core.List.{List, ◌++◌, Memᴰ}
 use Rattle.records.specs.declared.Tested.TheVariants.{Passed}
 use Rattle.records.specs.Page.{zero_summary}
 use Rattle.answers.specs.Design.{Design}
@@ -14,12 +14,12 @@ use Rattle.answers.specs.Judging.{good, perform_verdict, view_verdict}
 use Rattle.answers.specs.Answers.{open_tests}
 use Rattle.answers.specs.Edition.{this_edition}
 use Rattle.histories.specs.Runs.{Fresh}
-use Rattle.histories.specs.Premises.{Apart, Unforged, Premises}
+use Rattle.histories.specs.Premises.{Unforged, Premises}
 use Rattle.histories.specs.Closed.{TakenAreTrue}
 use Rattle.histories.proofs.Steps.{each_none, each_more}
 use Rattle.histories.proofs.PremiseTests.{all_alone, apart_by_test}
 use Rattle.histories.proofs.EditionTheorems.{taken_are_true}
-use Rattle.short_run.specs.ShortRun.{a, state_0, state_a, summary_a, key, record_0, record_a, fresh, room, computing, state_0_is, state_a_is, summary_is_lem, binding_0_is, binding-a_is, open_passes, perform_is, view_is, page_is, page_1, page_2, steps, run, messages, the_run_did}
+use Rattle.short_run.specs.ShortRun.{a, state_a, summary_a, key, record_0, record_a, fresh, room, computing, state_0_is, state_a_is, summary_is_lem, binding_0_is, binding-a_is, open_passes, perform_is, view_is, page_is, page_1, page_2, steps, run, messages, the_run_did}
 
 -- ---- the hashes
 

@@ -32,7 +32,7 @@ use Rattle.sha256.specs.Computation.{H₀, hashes, digest, sha256}
 use Rattle.hmac.specs.Hmac.{◌⊕◌, K₀, hmac}
 use Rattle.bindings.specs.Hashed.{authenticator_of}
 use Rattle.answers.specs.Design.{Design}
-use Rattle.answers.specs.Hashing.{next_summary, binding_of, binding_in}
+use Rattle.answers.specs.Hashing.{next_summary, binding_of}
 use Rattle.answers.specs.Rows.{Origin}
 use Rattle.answers.specs.Judging.{Verdict, good, perform_verdict, view_verdict}
 use Rattle.answers.specs.Answers.{open_tests, opened_by, opened, answered_by, performed, viewed_by, viewed}

@@ -1,6 +1,5 @@
 -- `binding` hashes the tag, the summary and the state hash in pieces. Assumes nothing.
 use Rattle.bindings.specs.Hashed.{binding}
-use borrow.Author.Rules.{rules}
 use Rattle.bindings.proofs.binding.Goals as goal
 
 pub returns : goal.returns

@@ -1,6 +1,5 @@
 -- `next_summary` hashes the tag, the summary and the request in pieces. Assumes nothing.
 use Rattle.bindings.specs.Hashed.{next_summary}
-use borrow.Author.Rules.{rules}
 use Rattle.bindings.proofs.next_summary.Goals as goal
 
 pub returns : goal.returns

@@ -4,7 +4,6 @@ use mathlib.Core.List.{[], ◌++◌, append-nil}
 use mathlib.Core.Path.{◌≡◌, ap, ◌∙◌}
 use Rattle.records.specs.Form.{form_of}
 use Rattle.bindings.specs.Hashed.{state_hash, state_message}
-use borrow.Author.Rules.{rules}
 use Rattle.bindings.proofs.state_hash.Goals as goal
 
 pub returns : goal.returns

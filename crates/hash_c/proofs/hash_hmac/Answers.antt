@@ -11,7 +11,6 @@ use mathlib.Core.Path.{◌≡◌, sym, ap, ◌∙◌}
 use borrow.Author.Tests.{leb-true}
 use Rattle.hash_c.proofs.Outcomes.{no_bounds, no_room, written, long_key, short_key}
 use Rattle.numbers.proofs.Testing.{failed, passed}
-use borrow.Author.Rules.{rules}
 use Rattle.hash_c.proofs.hash_hmac.Goals as goal
 
 pub returns-then-key-gt256 : goal.returns-then-key-gt256

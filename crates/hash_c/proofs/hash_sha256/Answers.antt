@@ -8,7 +8,6 @@ use mathlib.Core.Path.{ap, ◌∙◌}
 use borrow.Author.Tests.{leb-true}
 use Rattle.hash_c.proofs.Outcomes.{no_bounds, no_room, written}
 use Rattle.numbers.proofs.Testing.{failed, passed}
-use borrow.Author.Rules.{rules}
 use Rattle.hash_c.proofs.hash_sha256.Goals as goal
 
 pub returns-then-not-within : goal.returns-then-not-within

@@ -4,7 +4,6 @@ use native.Mathlib.Omega.{arith}
 use mathlib.Core.Path.{sym}
 use borrow.Author.Tests.{lt-leb}
 use Rattle.hash_c.proofs.Outcomes.{by_differences}
-use borrow.Author.Rules.{rules}
 use Rattle.hash_c.proofs.within.Goals as goal
 
 pub returns-then-most-a : goal.returns-then-most-a

@@ -2,7 +2,6 @@
 use Rattle.sha256.specs.Continued.{sha256_after}
 use mathlib.Core.List.{◌++◌, append-nil}
 use mathlib.Core.Path.{ap, ◌∙◌}
-use borrow.Author.Rules.{rules}
 use Rattle.hmac.proofs.behind.Goals as goal
 
 pub returns : goal.returns

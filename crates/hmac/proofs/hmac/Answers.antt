@@ -5,7 +5,6 @@ use Prim.Native.Nat.{ℕ}
 use mathlib.Core.List.{List, ◌++◌}
 use mathlib.Core.Path.{ap, ◌∙◌}
 use Rattle.hmac.proofs.Macs.{hmac_long, no_more}
-use borrow.Author.Rules.{rules}
 use Rattle.hmac.proofs.hmac.Goals as goal
 
 pub returns-then-key-gt-BLOCK_SIZE : goal.returns-then-key-gt-BLOCK_SIZE

@@ -3,7 +3,6 @@ use Rattle.sha256.specs.Continued.{sha256_after}
 use mathlib.Core.List.{◌++◌, append-nil}
 use mathlib.Core.Path.{ap, ◌∙◌}
 use Rattle.hmac.proofs.Macs.{hmac_short, no_more}
-use borrow.Author.Rules.{rules}
 use Rattle.hmac.proofs.hmac_short.Goals as goal
 
 pub returns : goal.returns

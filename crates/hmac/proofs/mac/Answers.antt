@@ -3,7 +3,6 @@ use Rattle.hmac.specs.Preparation.{mac_of}
 use Rattle.sha256.specs.Continued.{sha256_after}
 use mathlib.Core.List.{append-nil}
 use mathlib.Core.Path.{ap, ◌∙◌}
-use borrow.Author.Rules.{rules}
 use Rattle.hmac.proofs.mac.Goals as goal
 
 pub returns : goal.returns

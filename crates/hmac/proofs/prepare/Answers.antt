@@ -1,6 +1,5 @@
 -- `prepare` gives what a key of at most a block comes to, from its two pads. Assumes nothing.
 use Rattle.hmac.proofs.Macs.{prepared_short}
-use borrow.Author.Rules.{rules}
 use Rattle.hmac.proofs.prepare.Goals as goal
 
 pub returns : goal.returns

@@ -2,7 +2,6 @@
 use mathlib.Core.Path.{refl}
 use Rattle.views.specs.declared.Which.TheVariants.{Neither, Ram, Disk}
 use Rattle.keeper.proofs.Faces.{handed}
-use borrow.Author.Rules.{rules}
 use Rattle.keeper.proofs.resume.Goals as goal
 
 pub returns-in-Ram : goal.returns-in-Ram

@@ -1,6 +1,5 @@
 -- The array of zeros is laid behind the header, and the summary behind it. Assumes nothing.
 use mathlib.Core.Path.{refl}
-use borrow.Author.Rules.{rules}
 use Rattle.opens.proofs.lay_first.Goals as goal
 
 pub returns : goal.returns

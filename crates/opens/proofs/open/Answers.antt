@@ -1,7 +1,6 @@
 -- The three tests in their order, and then the first record. Assumes nothing.
 use native.Mathlib.Omega.{arith}
 use Rattle.opens.proofs.Cases.{open_2, open_13, open_0}
-use borrow.Author.Rules.{rules}
 use Rattle.opens.proofs.open.Goals as goal
 
 pub returns-then-answer-record_size : goal.returns-then-answer-record_size

@@ -3,7 +3,6 @@ use mathlib.Core.Path.{ap, ◌∙◌}
 use lib.ListN.{length}
 use Rattle.bindings.proofs.Seals.{length-page_summary}
 use Rattle.opens.proofs.Cases.{first_sealed}
-use borrow.Author.Rules.{rules}
 use Rattle.opens.proofs.write_first.Goals as goal
 
 pub lay_first-requires : goal.lay_first-requires

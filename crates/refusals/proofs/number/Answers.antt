@@ -1,6 +1,5 @@
 -- `number` meets its contract: the number of each arm is that of its row. Assumes nothing.
 use mathlib.Core.Path.{refl}
-use borrow.Author.Rules.{rules}
 use Rattle.refusals.proofs.number.Goals as goal
 
 pub returns-in-Page : goal.returns-in-Page

@@ -1,10 +1,7 @@
 -- `read_request` meets its contract: what is well formed is read by its fields. Assumes nothing.
-use mathlib.Core.Path.{◌≡◌, sym, ◌∙◌}
-use mathlib.Core.Bool.{true}
-use Rattle.requests.specs.Formed.{well_formed}
+use mathlib.Core.Path.{sym, ◌∙◌}
 use Rattle.requests.specs.Requests.{read_request}
 use Rattle.requests.proofs.Formed.{formed_form}
-use borrow.Author.Rules.{rules}
 use Rattle.requests.proofs.read_request.Goals as goal
 
 pub request_of-requires : goal.request_of-requires

@@ -9,7 +9,6 @@ use mathlib.Core.List.{List}
 use Rattle.numbers.specs.Numbers.{be}
 use Rattle.numbers.specs.Parts.{part}
 use Rattle.requests.specs.Requests.{request_by, request_of}
-use borrow.Author.Rules.{rules}
 use Rattle.requests.proofs.request_of.Goals as goal
 
 -- the fields as they were read

@@ -2,11 +2,11 @@
 use Rattle.sha256.proofs.Growing.{filled}
 use Rattle.sha256.proofs.DigestLaws.{word_more}
 use native.Mathlib.Omega.{arith}
-use lib.ListN.{length, take, length-set}
+use lib.ListN.{length-set}
 use mathlib.Core.Path.{◌≡◌, refl, ap, ◌∙◌}
 use borrow.Author.Rules.{rules}
 use Rattle.sha256.specs.Computation.{digest}
-use Prim.Native.Nat.{◌≤◌, ◌*◌, ◌-◌}
+use Prim.Native.Nat.{◌*◌}
 use Rattle.sha256.proofs.digest.Goals as goal
 
 pub loop-i-init : goal.loop-i-init

@@ -1,10 +1,6 @@
 -- `digest` gives the bytes of eight words. The invariant: the first 4 i bytes are those of the first i words. Assumes nothing.
-use Rattle.sha256.proofs.Growing.{filled}
-use Rattle.sha256.proofs.DigestLaws.{word_more}
-use native.Mathlib.Omega.{arith}
-use lib.ListN.{length, take, length-set}
-use mathlib.Core.Path.{◌≡◌, refl, ap, ◌∙◌}
-use borrow.Author.Rules.{rules}
+use lib.ListN.{length, take}
+use mathlib.Core.Path.{◌≡◌}
 use Rattle.sha256.specs.Computation.{digest}
 use Prim.Native.Nat.{◌≤◌, ◌*◌, ◌-◌}
 use Rattle.sha256.proofs.digest.Given as goal

@@ -6,7 +6,6 @@ use Rattle.sha256.specs.Padding.{padding}
 use native.Mathlib.Omega.{arith}
 use mathlib.Core.List.{◌++◌}
 use mathlib.Core.Path.{◌≡◌, ap, ◌∙◌}
-use Prim.Native.Nat.{◌≤◌, ◌-◌}
 use Rattle.sha256.proofs.hash_blocks.Goals as goal
 
 pub loop-i-init : goal.loop-i-init

@@ -1,11 +1,8 @@
 -- `hash_blocks` goes block by block. The invariant: the value is the standard's after i blocks. Assumes nothing.
-use borrow.Author.Rules.{rules}
-use Rattle.sha256.proofs.HashLaws.{next_value}
 use Rattle.sha256.specs.Computation.{hashes}
 use Rattle.sha256.specs.Padding.{padding}
-use native.Mathlib.Omega.{arith}
 use mathlib.Core.List.{◌++◌}
-use mathlib.Core.Path.{◌≡◌, ap, ◌∙◌}
+use mathlib.Core.Path.{◌≡◌}
 use Prim.Native.Nat.{◌≤◌, ◌-◌}
 use Rattle.sha256.proofs.hash_blocks.Given as goal
 

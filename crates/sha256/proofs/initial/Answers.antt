@@ -1,7 +1,7 @@
 -- `initial` is H₀, word by word. Assumes nothing.
 use Rattle.sha256.specs.Computation.{H₀}
 use mathlib.Core.Path.{◌≡◌, refl, ap₂}
-use mathlib.Core.List.{List, [], ◌∷◌}
+use mathlib.Core.List.{List, ◌∷◌}
 use Prim.Native.Nat.{ℕ}
 use Rattle.sha256.proofs.initial.Goals as goal
 

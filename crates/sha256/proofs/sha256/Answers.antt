@@ -5,7 +5,6 @@ use Rattle.sha256.specs.Computation.{hashes}
 use mathlib.Core.Path.{refl, sym, ap, ◌∙◌}
 use mathlib.Core.List.{List, [], ◌++◌}
 use Prim.Native.Nat.{ℕ}
-use borrow.Author.Rules.{rules}
 use Rattle.sha256.proofs.sha256.Goals as goal
 
 pub returns : goal.returns

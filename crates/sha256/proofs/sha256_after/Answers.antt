@@ -8,7 +8,6 @@ use Prim.Native.Nat.{ℕ, ◌+◌, ◌*◌, ◌/◌}
 use Rattle.sha256.specs.Padding.{padding}
 use Rattle.sha256.specs.Computation.{hashes, digest}
 use native.Mathlib.Omega.{arith}
-use borrow.Author.Rules.{rules}
 use Rattle.sha256.proofs.sha256_after.Goals as goal
 
 pub hash_blocks-requires : goal.hash_blocks-requires

@@ -2,7 +2,6 @@
 use mathlib.Core.Path.{ap, ◌∙◌}
 use Rattle.sha256_block.proofs.RoundLaws.{added}
 use Rattle.sha256_block.specs.Step.{add_to}
-use borrow.Author.Rules.{rules}
 use Rattle.sha256_block.proofs.next_hash.Goals as goal
 
 pub returns : goal.returns

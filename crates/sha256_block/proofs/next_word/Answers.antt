@@ -1,7 +1,6 @@
 -- `next_word` is the standard's sum of four words, from what each part of it ensures. Assumes nothing.
 use Rattle.sha256_block.specs.Schedule.{next_word}
 use mathlib.Core.Path.{refl}
-use borrow.Author.Rules.{rules}
 use Rattle.sha256_block.proofs.next_word.Goals as goal
 
 pub returns : goal.returns

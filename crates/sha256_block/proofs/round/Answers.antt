@@ -1,6 +1,5 @@
 -- `round` is one round of step 3, from its two temporary words. Assumes nothing.
 use Rattle.sha256_block.proofs.RoundLaws.{round-parts, t1_parts, t2_parts}
-use borrow.Author.Rules.{rules}
 use Rattle.sha256_block.proofs.round.Goals as goal
 
 pub returns : goal.returns

@@ -1,6 +1,5 @@
 -- All 64 rounds, from four times sixteen. Assumes nothing.
 use Rattle.sha256_block.proofs.RoundLaws.{rounds_64}
-use borrow.Author.Rules.{rules}
 use Rattle.sha256_block.proofs.rounds.Goals as goal
 
 pub returns : goal.returns

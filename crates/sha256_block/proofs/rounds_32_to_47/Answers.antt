@@ -2,7 +2,6 @@
 use Rattle.sha256_block.specs.Step.{round_at}
 use Rattle.sha256_block.proofs.RoundLaws.{then, none}
 use Rattle.sha256_block.specs.Constants.{K}
-use borrow.Author.Rules.{rules}
 use Rattle.sha256_block.proofs.rounds_32_to_47.Goals as goal
 
 pub returns : goal.returns

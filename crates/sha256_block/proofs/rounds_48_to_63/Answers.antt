@@ -4,7 +4,6 @@ use lib.ListN.{get_or}
 use Rattle.sha256_block.specs.Step.{round, round_at}
 use Rattle.sha256_block.proofs.RoundLaws.{then, none}
 use Rattle.sha256_block.specs.Constants.{K}
-use borrow.Author.Rules.{rules}
 use Rattle.sha256_block.proofs.rounds_48_to_63.Goals as goal
 
 pub returns : goal.returns

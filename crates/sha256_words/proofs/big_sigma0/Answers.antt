@@ -1,6 +1,6 @@
 -- `big_sigma0` is Σ₀, from what each rotation ensures. Assumes nothing.
 use Rattle.sha256_words.specs.Functions.{Σ₀}
-use Rattle.std.proofs.Common.{refl, rules}
+use Rattle.std.proofs.Common.{refl}
 use Rattle.sha256_words.proofs.big_sigma0.Goals as goal
 
 pub returns : goal.returns

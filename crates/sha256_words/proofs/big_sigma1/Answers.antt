@@ -1,6 +1,6 @@
 -- `big_sigma1` is Σ₁, from what each rotation ensures. Assumes nothing.
 use Rattle.sha256_words.specs.Functions.{Σ₁}
-use Rattle.std.proofs.Common.{refl, rules}
+use Rattle.std.proofs.Common.{refl}
 use Rattle.sha256_words.proofs.big_sigma1.Goals as goal
 
 pub returns : goal.returns

@@ -1,6 +1,5 @@
 -- `authenticator_of` is the MAC of the record's own binding; nothing stands before it. Assumes nothing.
 use mathlib.Core.Path.{refl}
-use borrow.Author.Rules.{rules}
 use Rattle.bindings.proofs.sealing.authenticator_of.Goals as goal
 
 pub returns : goal.returns

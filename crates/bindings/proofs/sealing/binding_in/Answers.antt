@@ -6,7 +6,6 @@ use Rattle.records.proofs.FormLaws.{state_fits}
 use Rattle.records.specs.Form.{form_of}
 use Rattle.bindings.specs.Hashed.{state_hash, binding, binding_of}
 use Rattle.bindings.proofs.Seals.{length_state, length_summary}
-use borrow.Author.Rules.{rules}
 use Rattle.bindings.proofs.sealing.binding_in.Goals as goal
 
 pub state_hash-hash-requires : goal.state_hash-hash-requires

@@ -1,6 +1,5 @@
 -- `lay` copies the three pieces, each behind the one before. Assumes nothing.
 use Rattle.bindings.proofs.Seals.{laid_3}
-use borrow.Author.Rules.{rules}
 use Rattle.bindings.proofs.sealing.lay.Goals as goal
 
 pub returns : goal.returns

@@ -1,7 +1,6 @@
 -- `prepared` prepares the key where it lies in the page. Assumes nothing.
 use mathlib.Core.Path.{refl}
 use Rattle.bindings.proofs.Seals.{key_short}
-use borrow.Author.Rules.{rules}
 use Rattle.bindings.proofs.sealing.prepared.Goals as goal
 
 pub prepare-requires : goal.prepare-requires

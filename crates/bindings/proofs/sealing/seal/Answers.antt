@@ -4,7 +4,6 @@ use mathlib.Core.Path.{sym, ◌∙◌}
 use lib.Seq.{length-take-le}
 use Rattle.records.specs.Form.{form_of}
 use Rattle.bindings.proofs.Seals.{sealed-front}
-use borrow.Author.Rules.{rules}
 use Rattle.bindings.proofs.sealing.seal.Goals as goal
 
 pub slice_bounds-authenticator_of-end-2 : goal.slice_bounds-authenticator_of-end-2

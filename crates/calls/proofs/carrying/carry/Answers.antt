@@ -1,7 +1,6 @@
 -- `carry` lends the state where it lies in the answer, and it comes back carried on. Assumes nothing.
 use Rattle.records.specs.Form.{form_of}
 use Rattle.calls.proofs.Writing.{lent_state, carried}
-use borrow.Author.Rules.{rules}
 use Rattle.calls.proofs.carrying.carry.Goals as goal
 
 pub carry_out-requires : goal.carry_out-requires

@@ -2,7 +2,6 @@
 use native.Mathlib.Omega.{arith}
 use Rattle.records.specs.Form.{form_of}
 use Rattle.calls.proofs.CarryingOut.{named, judged}
-use borrow.Author.Rules.{rules}
 use Rattle.calls.proofs.carrying.judge_record.Goals as goal
 
 pub judge-requires : goal.judge-requires

@@ -4,7 +4,6 @@ use lib.ListN.{length}
 use native.Mathlib.Omega.{arith}
 use Rattle.records.specs.Form.{form_of}
 use Rattle.bindings.proofs.Seals.{length_state}
-use borrow.Author.Rules.{rules}
 use Rattle.calls.proofs.carrying.lay_state.Goals as goal
 
 pub lay-requires : goal.lay-requires

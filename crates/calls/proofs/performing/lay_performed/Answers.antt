@@ -10,7 +10,6 @@ use Rattle.records.specs.Record.{state_bytes, header}
 use Rattle.bindings.specs.Hashed.{next_summary}
 use Rattle.bindings.proofs.Seals.{length_summary}
 use Rattle.calls.proofs.Writing.{laid_as}
-use borrow.Author.Rules.{rules}
 use Rattle.calls.proofs.performing.lay_performed.Goals as goal
 
 pub next_summary-hash-requires : goal.next_summary-hash-requires

@@ -6,7 +6,6 @@ use native.Mathlib.Omega.{arith}
 use Rattle.records.specs.Form.{form_of}
 use Rattle.bindings.proofs.Seals.{length_summary, front_summary}
 use Rattle.calls.proofs.Writing.{laid_as}
-use borrow.Author.Rules.{rules}
 use Rattle.calls.proofs.performing.move_page.Goals as goal
 
 pub slice_bounds-summary_part-end : goal.slice_bounds-summary_part-end

@@ -13,7 +13,6 @@ use Rattle.offers.specs.Offers.{PassedOffer, offered_at, offer_by}
 use Rattle.offers.proofs.Passing.{offered-length, offered_request, offered-range, offered-named}
 use Rattle.calls.proofs.CarryingOut.{ready}
 use Rattle.calls.proofs.Answering.{performs, early, asked, forged, stale, barred, done}
-use borrow.Author.Rules.{rules}
 use Rattle.calls.proofs.performing.perform.Goals as goal
 
 -- tests 1 to 6 have passed with the request q

@@ -3,7 +3,6 @@ use Rattle.records.specs.Form.{form_of}
 use Rattle.bindings.proofs.Hashes.{length-next_summary}
 use Rattle.calls.specs.Next.{moved_on}
 use Rattle.calls.proofs.Writing.{laid_as, ready_there, written}
-use borrow.Author.Rules.{rules}
 use Rattle.calls.proofs.performing.write_performed.Goals as goal
 
 pub carry-stored-requires : goal.carry-stored-requires

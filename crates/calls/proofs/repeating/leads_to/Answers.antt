@@ -8,7 +8,6 @@ use Rattle.numbers.specs.Comparing.{same}
 use Rattle.records.specs.Form.{form_of}
 use Rattle.bindings.specs.Hashed.{next_summary}
 use Rattle.bindings.proofs.Seals.{length_summary}
-use borrow.Author.Rules.{rules}
 use Rattle.calls.proofs.repeating.leads_to.Goals as goal
 
 pub next_summary-hash-requires : goal.next_summary-hash-requires

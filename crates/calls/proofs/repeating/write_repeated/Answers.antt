@@ -4,7 +4,6 @@ use lib.ListN.{length}
 use Rattle.records.specs.Form.{form_of}
 use Rattle.bindings.proofs.Seals.{length-page_summary}
 use Rattle.calls.proofs.Writing.{ready_there, written}
-use borrow.Author.Rules.{rules}
 use Rattle.calls.proofs.repeating.write_repeated.Goals as goal
 
 pub lay_state-requires : goal.lay_state-requires

@@ -2,7 +2,6 @@
 use mathlib.Core.Path.{refl}
 use Rattle.opens.specs.declared.OpenAnswer.TheVariants.{Opened, Refused}
 use Rattle.keeper.proofs.Faces.{opened_to_c}
-use borrow.Author.Rules.{rules}
 use Rattle.keeper.proofs.c.keeper_open.Goals as goal
 
 pub returns-in-Opened : goal.returns-in-Opened

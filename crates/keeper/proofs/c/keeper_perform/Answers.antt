@@ -2,7 +2,6 @@
 use mathlib.Core.Path.{refl}
 use Rattle.calls.specs.declared.PerformAnswer.TheVariants.{Done, Refused}
 use Rattle.keeper.proofs.Faces.{performed_to_c}
-use borrow.Author.Rules.{rules}
 use Rattle.keeper.proofs.c.keeper_perform.Goals as goal
 
 pub returns-in-Done : goal.returns-in-Done

@@ -2,7 +2,6 @@
 use mathlib.Core.Path.{refl}
 use Rattle.views.specs.declared.Which.TheVariants.{Neither, Ram, Disk}
 use Rattle.keeper.proofs.Faces.{resumed_to_c}
-use borrow.Author.Rules.{rules}
 use Rattle.keeper.proofs.c.keeper_resume.Goals as goal
 
 pub returns-in-Neither : goal.returns-in-Neither

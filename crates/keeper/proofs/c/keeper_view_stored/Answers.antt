@@ -3,7 +3,6 @@ use mathlib.Core.Path.{refl}
 use Rattle.answers.specs.Answers.{Viewed}
 use Rattle.views.specs.declared.ViewAnswer.TheVariants.{Seen, Refused}
 use Rattle.keeper.proofs.Faces.{viewed_to_c}
-use borrow.Author.Rules.{rules}
 use Rattle.keeper.proofs.c.keeper_view_stored.Goals as goal
 
 pub returns-in-Seen : goal.returns-in-Seen

@@ -1,10 +1,10 @@
 -- `all_zero` meets its contract. The invariant is that of `same`, against as many zeros. Assumes nothing.
 use mathlib.Core.Path.{◌≡◌, refl, sym, ◌∙◌}
 use mathlib.Core.Bool.{◌&&◌}
-use Prim.Native.Nat.{ℕ, ◌+◌, ◌-◌, ◌≤◌, ◌<◌}
+use Prim.Native.Nat.{ℕ, ◌+◌, ◌≤◌, ◌<◌}
 use mathlib.Core.List.{List}
 use native.Mathlib.Omega.{arith}
-use lib.ListN.{length, get_or, drop, replicate, length-replicate, get_or-replicate}
+use lib.ListN.{length, get_or, drop, length-replicate, get_or-replicate}
 use lib.Dec.{eqb}
 use lib.Bits.{bit_or, bit_xor, xor_zero_r}
 use Rattle.numbers.specs.Comparing.{same}

@@ -1,12 +1,7 @@
 -- `same` meets its contract. The invariant: no difference so far and none in what is left is what `same` tests of the whole.
 -- Assumes nothing.
-use mathlib.Core.Path.{◌≡◌, refl, sym, ◌∙◌}
-use mathlib.Core.Bool.{◌&&◌}
-use Prim.Native.Nat.{◌-◌, ◌≤◌}
+use mathlib.Core.Path.{refl, sym, ◌∙◌}
 use native.Mathlib.Omega.{arith}
-use lib.ListN.{length, drop}
-use lib.Dec.{eqb}
-use Rattle.numbers.specs.Comparing.{same}
 use Rattle.numbers.proofs.Comparison.{same_lengths}
 use Rattle.numbers.proofs.Differences as differences
 use Rattle.numbers.proofs.comparing.same.Goals as goal

@@ -1,11 +1,8 @@
 -- `copy` meets its contract. The invariant: d is what it was with the first i bytes of s laid in it (`paste`). Assumes nothing.
-use mathlib.Core.Path.{◌≡◌, refl}
+use mathlib.Core.Path.{◌≡◌}
 use Prim.Native.Nat.{◌-◌, ◌≤◌}
-use native.Mathlib.Numerals.{add-one}
-use native.Mathlib.Omega.{arith}
-use lib.ListN.{length, length-set}
-use lib.Seq.{paste, paste-zero, paste-suc, take-length}
-use Rattle.numbers.specs.Parts.{over}
+use lib.ListN.{length}
+use lib.Seq.{paste}
 use Rattle.numbers.proofs.copying.copy.Given as goal
 
 abbrev pub invariant-loop-i : goal.invariant-loop-i

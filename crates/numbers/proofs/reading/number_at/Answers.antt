@@ -5,7 +5,6 @@ use Rattle.numbers.specs.Numbers.{be, Bytes}
 use Rattle.numbers.specs.Parts.{part}
 use Rattle.numbers.proofs.Numbers.{be-part-lt}
 use Rattle.numbers.proofs.Lending.{lent}
-use borrow.Author.Rules.{rules}
 use Rattle.numbers.proofs.reading.number_at.Goals as goal
 
 pub returns : goal.returns

@@ -8,7 +8,6 @@ use Rattle.numbers.specs.Parts.{over}
 use Rattle.numbers.proofs.Numbers.{length-bytes_of}
 use Rattle.numbers.proofs.Parts.{length_part}
 use Rattle.numbers.proofs.Lending.{lent, returned}
-use borrow.Author.Rules.{rules}
 use Rattle.numbers.proofs.writing.fill_at.Goals as goal
 
 -- the whole, when the part came back filled with x

@@ -2,7 +2,6 @@
 use native.Mathlib.Omega.{arith}
 use Rattle.records.specs.Form.{form_of}
 use Rattle.offers.proofs.Cases.{look_1, look_5, look_6, look_passed}
-use borrow.Author.Rules.{rules}
 use Rattle.offers.proofs.testing.test_look.Goals as goal
 
 pub returns-then-page-ne-PAGE_SIZE : goal.returns-then-page-ne-PAGE_SIZE

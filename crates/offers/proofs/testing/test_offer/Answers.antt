@@ -2,7 +2,6 @@
 use native.Mathlib.Omega.{arith}
 use Rattle.records.specs.Form.{form_of}
 use Rattle.offers.proofs.Cases.{offer_1, offer_2, offer_5, offer_6, offer_formed}
-use borrow.Author.Rules.{rules}
 use Rattle.offers.proofs.testing.test_offer.Goals as goal
 
 pub returns-then-page-ne-PAGE_SIZE : goal.returns-then-page-ne-PAGE_SIZE

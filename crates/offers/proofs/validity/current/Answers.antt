@@ -1,7 +1,6 @@
 -- The two summaries are compared where they lie. Assumes nothing.
 use mathlib.Core.Path.{◌≡◌, ap₂, ◌∙◌}
 use Rattle.numbers.specs.Comparing.{same}
-use borrow.Author.Rules.{rules}
 use Rattle.offers.proofs.validity.current.Goals as goal
 
 pub returns : goal.returns

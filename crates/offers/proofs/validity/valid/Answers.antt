@@ -1,7 +1,6 @@
 -- The authenticator is worked out from the record's own parts and compared. Assumes nothing.
 use mathlib.Core.Path.{ap₂, ◌∙◌}
 use Rattle.numbers.specs.Comparing.{same}
-use borrow.Author.Rules.{rules}
 use Rattle.offers.proofs.validity.valid.Goals as goal
 
 pub returns : goal.returns

@@ -1,5 +1,4 @@
 -- `percent` meets its contract: by the rule the quotient is at most 100, so that it fits. Assumes nothing.
-use borrow.Author.Rules.{rules}
 use mathlib.Core.Path.{sym}
 use Prim.Native.Nat.{◌*◌, ◌/◌}
 use native.Mathlib.Omega.{arith}

@@ -1,8 +1,7 @@
 -- `total_stored` meets its contract. The invariant: the sum so far and what the racks that are left store is the total, and the sum
 -- is below 2 ^ 32 for each rack passed, so that it fits. Assumes nothing.
-use borrow.Author.Rules.{rules}
 use mathlib.Core.Path.{◌≡◌, ap}
-use Prim.Native.Nat.{◌+◌, ◌*◌, ◌-◌, ◌/◌, ◌^◌, ◌≤◌}
+use Prim.Native.Nat.{◌+◌, ◌/◌}
 use native.Mathlib.Omega.{arith}
 use lib.ListN.{length, drop}
 use Rattle.racks.specs.Layout.{rack_size, state_of}

@@ -1,13 +1,10 @@
 -- `total_stored` meets its contract. The invariant: the sum so far and what the racks that are left store is the total, and the sum
 -- is below 2 ^ 32 for each rack passed, so that it fits. Assumes nothing.
-use borrow.Author.Rules.{rules}
-use mathlib.Core.Path.{◌≡◌, ap}
-use Prim.Native.Nat.{◌+◌, ◌*◌, ◌-◌, ◌/◌, ◌^◌, ◌≤◌}
-use native.Mathlib.Omega.{arith}
-use lib.ListN.{length, drop}
-use Rattle.racks.specs.Layout.{rack_size, state_of}
+use mathlib.Core.Path.{◌≡◌}
+use Prim.Native.Nat.{◌+◌, ◌*◌, ◌-◌, ◌^◌, ◌≤◌}
+use lib.ListN.{drop}
+use Rattle.racks.specs.Layout.{state_of}
 use Rattle.racks.specs.Figures.{total_stored}
-use Rattle.racks.proofs.StatePlaces.{drop-state_of, drop-state_of_end}
 use Rattle.racks.proofs.figures.total_stored.Given as goal
 
 abbrev pub invariant-loop-i : goal.invariant-loop-i

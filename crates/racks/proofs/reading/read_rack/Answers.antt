@@ -1,5 +1,4 @@
 -- `read_rack` meets its contract: the four numbers that it reads are the fields of the form that lies there. Assumes nothing.
-use borrow.Author.Rules.{rules}
 use mathlib.Core.Path.{sym}
 use native.Mathlib.Nat.{add_assoc}
 use Rattle.racks.proofs.RackBytes.{rack_of-part}

@@ -1,12 +1,10 @@
 -- `good_state` meets its contract. The invariant: what is left of the state keeps the rule just where the whole does. Assumes nothing.
-use borrow.Author.Rules.{rules}
-use borrow.Author.Tests.{not-true, not-false}
 use mathlib.Core.Path.{◌≡◌, refl}
 use mathlib.Core.Bool.{◌&&◌}
-use Prim.Native.Nat.{◌+◌, ◌-◌, ◌/◌, ◌≤◌}
+use Prim.Native.Nat.{◌+◌, ◌/◌}
 use native.Mathlib.Omega.{arith}
 use mathlib.Core.Bool.{Bool}
-use mathlib.Core.List.{List, ◌∷◌}
+use mathlib.Core.List.{List}
 use Prim.Native.Nat.{ℕ, ◌*◌, ◌<◌}
 use Rattle.numbers.specs.Parts.{part}
 use Rattle.racks.specs.declared.Rack.{Rack}

@@ -1,5 +1,4 @@
 -- `write_rack` meets its contract: the four numbers are laid one behind the other, as the fields of the form. Assumes nothing.
-use borrow.Author.Rules.{rules}
 use native.Mathlib.Nat.{add_assoc}
 use Rattle.numbers.proofs.Numbers.{length-bytes_of}
 use Rattle.racks.proofs.RackBytes.{lay_at_rack}

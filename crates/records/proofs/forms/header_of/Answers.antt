@@ -1,6 +1,5 @@
 -- `header_of` says the form's own. Assumes nothing.
 use Rattle.records.proofs.FormLaws.{header_said}
-use borrow.Author.Rules.{rules}
 use Rattle.records.proofs.forms.header_of.Goals as goal
 
 pub returns : goal.returns

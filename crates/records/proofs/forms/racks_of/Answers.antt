@@ -1,6 +1,5 @@
 -- `racks_of` says the form's own. Assumes nothing.
 use Rattle.records.proofs.FormLaws.{racks_said}
-use borrow.Author.Rules.{rules}
 use Rattle.records.proofs.forms.racks_of.Goals as goal
 
 pub returns : goal.returns

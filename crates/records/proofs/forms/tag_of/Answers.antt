@@ -1,6 +1,5 @@
 -- `tag_of` says the form's own. Assumes nothing.
 use Rattle.records.proofs.FormLaws.{tag_said}
-use borrow.Author.Rules.{rules}
 use Rattle.records.proofs.forms.tag_of.Goals as goal
 
 pub returns : goal.returns

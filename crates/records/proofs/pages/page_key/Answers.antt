@@ -1,7 +1,6 @@
 -- The key is the part of a page that the layout names. Assumes nothing.
 use Rattle.numbers.specs.Parts.{part}
 use mathlib.Core.Path.{refl}
-use borrow.Author.Rules.{rules}
 use Rattle.records.proofs.pages.page_key.Goals as goal
 
 pub returns : goal.returns

@@ -1,6 +1,5 @@
 -- `record_size` adds the widths of the two fields behind the racks. Assumes nothing.
 use native.Mathlib.Omega.{arith}
-use borrow.Author.Rules.{rules}
 use Rattle.records.proofs.parts.record_size.Goals as goal
 
 pub returns : goal.returns

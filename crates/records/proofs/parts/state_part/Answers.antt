@@ -2,7 +2,6 @@
 use Rattle.records.specs.Form.{form_of}
 use Rattle.records.specs.Record.{state_size}
 use Rattle.numbers.proofs.Lending.{lent}
-use borrow.Author.Rules.{rules}
 use Rattle.records.proofs.parts.state_part.Goals as goal
 
 pub returns : goal.returns

@@ -3,7 +3,6 @@ use Rattle.records.specs.Form.{form_of}
 use Rattle.records.specs.Record.{state_size}
 use Prim.Native.Nat.{◌+◌}
 use Rattle.numbers.proofs.Lending.{lent}
-use borrow.Author.Rules.{rules}
 use Rattle.records.proofs.parts.summary_part.Goals as goal
 
 pub returns : goal.returns

@@ -8,7 +8,6 @@ use native.Mathlib.Omega.{arith}
 use mathlib.Core.Path.{◌≡◌, sym, ◌∙◌}
 use Rattle.records.proofs.FormLaws.{fits}
 use Rattle.records.proofs.Headers.{size_wrong, size_right}
-use borrow.Author.Rules.{rules}
 use Rattle.records.proofs.testing.right_size.Goals as goal
 
 pub returns-then-record-record_size : goal.returns-then-record-record_size

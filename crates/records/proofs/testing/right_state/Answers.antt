@@ -2,7 +2,6 @@
 use mathlib.Core.Path.{◌∙◌}
 use Rattle.records.proofs.TestCases.{state_rule}
 use Rattle.records.specs.Form.{form_of}
-use borrow.Author.Rules.{rules}
 use Rattle.records.proofs.testing.right_state.Goals as goal
 
 pub returns : goal.returns

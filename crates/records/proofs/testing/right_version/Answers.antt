@@ -2,7 +2,6 @@
 use Rattle.records.proofs.FormLaws.{fits}
 use Rattle.records.proofs.Headers.{version_byte}
 use Rattle.records.specs.Form.{form_of}
-use borrow.Author.Rules.{rules}
 use Rattle.records.proofs.testing.right_version.Goals as goal
 
 pub returns : goal.returns

@@ -2,7 +2,6 @@
 use Rattle.records.proofs.Headers.{right_length}
 use Rattle.numbers.proofs.Testing.{failed, passed}
 use Rattle.records.proofs.TestCases.{refused_3, refused_4, refused_5, all_passed}
-use borrow.Author.Rules.{rules}
 use Rattle.records.proofs.testing.test_record.Goals as goal
 
 pub returns-then-not-right_size : goal.returns-then-not-right_size

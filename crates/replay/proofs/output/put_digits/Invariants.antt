@@ -1,4 +1,4 @@
--- `put_digits`: two digits a byte, after the blank, stay inside the text. Assumes nothing.
+-- `put_digits`: two digits a byte stay inside the text. Assumes nothing.
 use Rattle.std.proofs.Common.{length, ◌-◌, ◌≤◌}
 use Rattle.replay.proofs.output.put_digits.Given as goal
 

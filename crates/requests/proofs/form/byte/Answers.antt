@@ -2,7 +2,6 @@
 use mathlib.Core.Path.{sym}
 use native.Mathlib.Omega.{arith}
 use Rattle.requests.proofs.Bytes.{one_byte}
-use borrow.Author.Rules.{rules}
 use Rattle.requests.proofs.form.byte.Goals as goal
 
 pub overflow_cast-result : goal.overflow_cast-result

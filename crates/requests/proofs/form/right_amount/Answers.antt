@@ -4,7 +4,6 @@ use Prim.Native.Nat.{◌<◌}
 use borrow.Author.Tests.{eq-eqb, ne_eqb, le-leb, lt-leb}
 use Rattle.racks.specs.Rule.{amount_limit}
 use Rattle.requests.proofs.Tests.{amount_is}
-use borrow.Author.Rules.{rules}
 use Rattle.requests.proofs.form.right_amount.Goals as goal
 
 pub returns-then-amount-gt-AMOUNT_LIMIT : goal.returns-then-amount-gt-AMOUNT_LIMIT

@@ -5,7 +5,6 @@ use lib.ListN.{length}
 use borrow.Author.Tests.{eq-eqb, ne_eqb}
 use Rattle.requests.specs.Layout.{request_size}
 use Rattle.requests.proofs.Tests.{form_is}
-use borrow.Author.Rules.{rules}
 use Rattle.requests.proofs.form.right_form.Goals as goal
 
 pub returns-then-s-ne-SIZE : goal.returns-then-s-ne-SIZE

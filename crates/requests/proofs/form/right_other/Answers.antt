@@ -2,7 +2,6 @@
 use mathlib.Core.Path.{refl, sym}
 use borrow.Author.Tests.{eq-eqb, ne_eqb, le-ltb, lt-ltb}
 use Rattle.requests.proofs.Tests.{other_low, other_high}
-use borrow.Author.Rules.{rules}
 use Rattle.requests.proofs.form.right_other.Goals as goal
 
 pub returns-then-kind-le3 : goal.returns-then-kind-le3

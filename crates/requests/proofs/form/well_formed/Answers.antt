@@ -1,7 +1,7 @@
 -- `well_formed` meets its contract: its tests are those of the definition, in their order, and the form's comes first, so that
 -- the fields are there to be read. Assumes nothing.
 use mathlib.Core.Path.{◌≡◌, refl, sym}
-use mathlib.Core.Bool.{Bool, true, ◌&&◌}
+use mathlib.Core.Bool.{Bool, true}
 use Prim.Native.Nat.{ℕ, ◌<◌}
 use mathlib.Core.List.{List}
 use lib.ListN.{length}
@@ -12,7 +12,6 @@ use Rattle.requests.specs.Layout.{request_size}
 use Rattle.requests.specs.Formed.{right_form}
 use Rattle.requests.proofs.Formed.{right_form_lem}
 use Rattle.requests.proofs.Tests.{formed_is}
-use borrow.Author.Rules.{rules}
 use Rattle.requests.proofs.form.well_formed.Goals as goal
 
 -- past the first test the size is right

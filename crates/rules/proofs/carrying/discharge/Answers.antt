@@ -5,7 +5,6 @@ use Rattle.racks.specs.declared.Rack.{Rack}
 use Prim.Native.Nat.{ℕ}
 use native.Mathlib.Omega.{arith}
 use Rattle.rules.specs.Ready.{GivesOut}
-use borrow.Author.Rules.{rules}
 use Rattle.rules.proofs.carrying.discharge.Goals as goal
 
 -- the rack that was read gives the amount out

@@ -1,5 +1,4 @@
 -- `set_capacity` meets its contract: the rack is read, changed and put back. Assumes nothing.
-use borrow.Author.Rules.{rules}
 use Rattle.rules.proofs.carrying.set_capacity.Goals as goal
 
 pub returns : goal.returns

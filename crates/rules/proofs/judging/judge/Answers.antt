@@ -1,7 +1,6 @@
 -- `judge` meets its contract: each kind is judged by the racks that it names. Assumes nothing.
 use mathlib.Core.Path.{◌∙◌}
 use Rattle.rules.proofs.Tests.{of_capacity, of_charge, of_discharge, of_move}
-use borrow.Author.Rules.{rules}
 use Rattle.rules.proofs.judging.judge.Goals as goal
 
 pub rack_at-requires : goal.rack_at-requires

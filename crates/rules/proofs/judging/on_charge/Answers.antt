@@ -5,7 +5,6 @@ use lib.Dec.{ltb}
 use Rattle.racks.specs.Rule.{flow_limit}
 use Rattle.rules.specs.Rules.{over_capacity, over_stored, over_limit}
 use Rattle.rules.proofs.Tests.{ruling_is}
-use borrow.Author.Rules.{rules}
 use Rattle.rules.proofs.judging.on_charge.Goals as goal
 
 pub returns-then-passes : goal.returns-then-passes

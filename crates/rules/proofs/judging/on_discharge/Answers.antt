@@ -3,7 +3,6 @@ use mathlib.Core.Path.{refl, sym, ◌∙◌}
 use borrow.Author.Tests.{lt-ltb, le-ltb}
 use Rattle.rules.specs.Rules.{over_capacity, over_stored, over_limit}
 use Rattle.rules.proofs.Tests.{ruling_is}
-use borrow.Author.Rules.{rules}
 use Rattle.rules.proofs.judging.on_discharge.Goals as goal
 
 pub returns-then-r-amount : goal.returns-then-r-amount

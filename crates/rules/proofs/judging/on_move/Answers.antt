@@ -12,7 +12,6 @@ use Rattle.requests.specs.declared.Request.TheVariants.{Move}
 use Rattle.rules.specs.declared.Ruling.TheVariants.{Free, Barred}
 use Rattle.rules.specs.Rules.{over_capacity, over_stored, ruling}
 use Rattle.rules.proofs.Tests.{ruling_is, limit_is}
-use borrow.Author.Rules.{rules}
 use Rattle.rules.proofs.judging.on_move.Goals as goal
 
 -- past 9 and 10 the two halves of 11 decide

@@ -2,7 +2,6 @@
 use mathlib.Core.Path.{sym, ◌∙◌}
 use Rattle.rules.specs.Ready.{racks_in}
 use Rattle.racks.proofs.StatePlaces.{rack_at-state_of}
-use borrow.Author.Rules.{rules}
 use Rattle.rules.proofs.state.rack_at.Goals as goal
 
 pub returns : goal.returns

@@ -6,9 +6,9 @@ use Rattle.sha256.specs.Parsing.{words, block}
 use Rattle.sha256.specs.Padding.{padding}
 use native.Mathlib.Omega.{arith}
 use mathlib.Core.List.{[], ◌∷◌, ◌++◌}
-use lib.ListN.{length, take, length-set}
+use lib.ListN.{take, length-set}
 use mathlib.Core.Path.{◌≡◌, sym, ap, ◌∙◌, refl, subst}
-use Prim.Native.Nat.{ℕ, ◌≤◌, ◌-◌, ◌*◌, ◌+◌}
+use Prim.Native.Nat.{ℕ, ◌*◌, ◌+◌}
 use Rattle.sha256.proofs.message.block_words.Goals as goal
 
 pub overflow_mul-at : goal.overflow_mul-at

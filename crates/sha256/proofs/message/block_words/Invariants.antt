@@ -1,14 +1,10 @@
 -- `block_words` gives a block's sixteen words. The invariant: the first t words are the block's. Assumes nothing.
-use borrow.Author.Rules.{rules}
-use Rattle.sha256.proofs.Growing.{one_more}
-use Rattle.sha256.proofs.MessageLaws.{sizes, words-suc}
-use Rattle.sha256.specs.Parsing.{words, block}
+use Rattle.sha256.specs.Parsing.{words}
 use Rattle.sha256.specs.Padding.{padding}
-use native.Mathlib.Omega.{arith}
-use mathlib.Core.List.{[], ◌∷◌, ◌++◌}
-use lib.ListN.{length, take, length-set}
-use mathlib.Core.Path.{◌≡◌, sym, ap, ◌∙◌, refl, subst}
-use Prim.Native.Nat.{ℕ, ◌≤◌, ◌-◌, ◌*◌, ◌+◌}
+use mathlib.Core.List.{◌++◌}
+use lib.ListN.{length, take}
+use mathlib.Core.Path.{◌≡◌}
+use Prim.Native.Nat.{◌≤◌, ◌-◌}
 use Rattle.sha256.proofs.message.block_words.Given as goal
 
 abbrev pub invariant-loop-t : goal.invariant-loop-t

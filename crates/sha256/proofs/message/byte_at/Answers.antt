@@ -5,7 +5,6 @@ use mathlib.Core.List.{[], ◌∷◌}
 use mathlib.Core.Path.{sym, ◌∙◌}
 use native.Mathlib.Omega.{arith}
 use Rattle.sha256.proofs.MessageLaws.{byte_1, byte_2, byte_3, byte_4, byte_past}
-use borrow.Author.Rules.{rules}
 use Rattle.sha256.proofs.message.byte_at.Goals as goal
 
 pub returns-then-k-a : goal.returns-then-k-a

@@ -2,7 +2,6 @@
 use mathlib.Core.Path.{sym}
 use native.Mathlib.Omega.{arith}
 use Rattle.sha256.proofs.MessageLaws.{length-padding, k_small, padding-last, padding-other}
-use borrow.Author.Rules.{rules}
 use Rattle.sha256.proofs.message.padding_word.Goals as goal
 
 pub overflow_add-len : goal.overflow_add-len

@@ -1,6 +1,5 @@
 -- `word` is the word at a place of a slice, from its four bytes. Assumes nothing.
 use Rattle.sha256_words.specs.Words.{word_at}
-use borrow.Author.Rules.{rules}
 use Rattle.sha256.proofs.message.word.Goals as goal
 
 pub returns : goal.returns

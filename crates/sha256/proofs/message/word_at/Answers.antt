@@ -7,7 +7,6 @@ use Prim.Native.Nat.{ℕ, ◌+◌, ◌-◌, ◌/◌, ◌%◌, ◌≤◌}
 use mathlib.Core.Path.{◌≡◌, sym, ap, ◌∙◌}
 use native.Mathlib.Omega.{arith}
 use Rattle.sha256.proofs.MessageLaws.{sizes, aligned, room, word_1, word_2, word_3, word_4, word_before_length}
-use borrow.Author.Rules.{rules}
 use Rattle.sha256.proofs.message.word_at.Goals as goal
 use Rattle.sha256.proofs.message.word_at.Goals.{then-a-k+else-i-b+then-b-i+else-j-c+else-c-j, then-a-k+else-i-b+else-b-i, else-a-k}
 

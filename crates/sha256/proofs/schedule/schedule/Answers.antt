@@ -7,9 +7,9 @@ use Rattle.sha256.specs.Parsing.{block}
 use Rattle.sha256.specs.Padding.{padding}
 use native.Mathlib.Omega.{arith}
 use mathlib.Core.List.{◌++◌}
-use lib.ListN.{length, take, set, get_or, length-set}
+use lib.ListN.{set, get_or, length-set}
 use mathlib.Core.Path.{◌≡◌, ap, ◌∙◌}
-use Prim.Native.Nat.{◌≤◌, ◌-◌, ◌+◌, ◌%◌}
+use Prim.Native.Nat.{◌+◌}
 use Rattle.sha256.proofs.schedule.schedule.Goals as goal
 
 pub loop-n-init : goal.loop-n-init

@@ -1,14 +1,10 @@
 -- `schedule` gives W of the block. The invariant: the first n + 16 words are the schedule after n steps. Assumes nothing.
-use borrow.Author.Rules.{rules}
-use Rattle.sha256.proofs.Growing.{filled}
-use Rattle.sha256.proofs.ScheduleLaws.{four_words}
-use Rattle.sha256_block.specs.Schedule.{next_word, schedule, W}
+use Rattle.sha256_block.specs.Schedule.{schedule}
 use Rattle.sha256.specs.Parsing.{block}
 use Rattle.sha256.specs.Padding.{padding}
-use native.Mathlib.Omega.{arith}
 use mathlib.Core.List.{◌++◌}
-use lib.ListN.{length, take, set, get_or, length-set}
-use mathlib.Core.Path.{◌≡◌, ap, ◌∙◌}
+use lib.ListN.{length, take}
+use mathlib.Core.Path.{◌≡◌}
 use Prim.Native.Nat.{◌≤◌, ◌-◌, ◌+◌, ◌%◌}
 use Rattle.sha256.proofs.schedule.schedule.Given as goal
 

@@ -1,6 +1,5 @@
 -- RAM's record is looked at first, and the disk's only where it is not current. Assumes nothing.
 use Rattle.views.proofs.Chosen.{chosen_ram, chosen_disk, chosen_neither}
-use borrow.Author.Rules.{rules}
 use Rattle.views.proofs.resuming.choose.Goals as goal
 
 pub returns-then-is_current : goal.returns-then-is_current

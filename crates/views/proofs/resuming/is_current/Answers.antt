@@ -4,7 +4,6 @@ use Rattle.views.proofs.Chosen.{not_tested, not_valid, is_current}
 use Rattle.offers.proofs.Passing.{passed_length}
 use mathlib.Core.Path.{sym, ◌∙◌}
 use native.Mathlib.Omega.{arith}
-use borrow.Author.Rules.{rules}
 use Rattle.views.proofs.resuming.is_current.Goals as goal
 
 pub valid-requires : goal.valid-requires

@@ -1,6 +1,5 @@
 -- The total is tested, and the rack is read where it lies. Assumes nothing.
 use Rattle.views.proofs.Shown.{view_over, view_seen, seen_good}
-use borrow.Author.Rules.{rules}
 use Rattle.views.proofs.viewing.figures.Goals as goal
 
 pub returns-then-total-gt-MOST_TOTAL : goal.returns-then-total-gt-MOST_TOTAL

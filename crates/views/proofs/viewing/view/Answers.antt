@@ -10,7 +10,6 @@ use Rattle.records.proofs.FormLaws.{state_fits}
 use lib.ListN.{length}
 use Rattle.offers.specs.Offers.{PassedLook, looked_at}
 use Rattle.offers.proofs.Passing.{looked-length}
-use borrow.Author.Rules.{rules}
 use Rattle.views.proofs.viewing.view.Goals as goal
 
 -- tests 1 to 6 have passed

@@ -48,7 +48,7 @@ def printed(language, compiler, source, library, room):
 def main():
     library = pathlib.Path(sys.argv[1] if len(sys.argv) > 1 else ROOT / "target" / "staticlib" / "libkeeper.a")
     if not library.is_file():
-        failed(f"{library} is missing; rt staticlib keeper builds the proved one")
+        failed(f"{library} is missing; tools/archive keeper builds the proved one")
     subprocess.run([ROOT / "tools" / "need", "gcc", "g++", "libc6-dev"], check=True)
     program, line = shown()
     with tempfile.TemporaryDirectory() as made:

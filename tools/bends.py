@@ -23,15 +23,15 @@ ENTRY = {"nothing": "page", "hashes": "page", "answers": "state"}
 
 def clauses(text):
     """Each clause of the calls with each of its kin, and with either half where it is one thing and then another."""
-    for m in re.finditer(r"^((?:open|perform|repeat|look)Did D page .*?) = (.*)$", text, re.M):
+    for m in re.finditer(r"^((?:open|perform|repeat|look)_did D page .*?) = (.*)$", text, re.M):
         head, right = m[1], m[2]
-        others = [k for k in KIN if k != right and not (head.startswith("openDid") and " l" in k)]
+        others = [k for k in KIN if k != right and not (head.startswith("open_did") and " l" in k)]
         halves = re.match(r"both \((\w+ D page l)\) \((.*)\)$", right)
         others += [halves[1], halves[2]] if halves else []
         for other in dict.fromkeys(others):
             if other != right:
                 yield f"{head} = {other}", m.start(2), m.end(2), other
-    for m in re.finditer(r"^(resumeDid \S.*? ram disk) = (.*)$", text, re.M):
+    for m in re.finditer(r"^(resume_did \S.*? ram disk) = (.*)$", text, re.M):
         for other in ("ram", "disk", "both ram disk"):
             if other != m[2]:
                 yield f"{m[1]} = {other}", m.start(2), m.end(2), other
@@ -45,24 +45,24 @@ def fields(text):
             entry = ENTRY.get(m[1], "l")
             other = f"{entry} ∷ []" if f[1] == "[]" else "[]"
             if m[1] == "both":
-                other = f"a .{field}"
+                other = f"a.{field}"
             at = m.start(2) + f.start(1)
             yield f"{m[1]}: {field} = {other}", at, at + len(f[1]), other
 
 
 def folds(text):
     """The steps: what each kind of cut leaves, moves and has called, and what counts as answered."""
-    for m in re.finditer(r"^((?:pageAfterStep|movedBy) D page \((\w+) c\)) = (.*)$", text, re.M):
+    for m in re.finditer(r"^((?:page_after_step|moved_by) D page \((\w+) c\)) = (.*)$", text, re.M):
         name = ".page" if m[1].startswith("page") else ".moved"
         idle = "page" if m[1].startswith("page") else "[]"
-        other = idle if name in m[3] else f"did D page c {name}"
+        other = idle if name in m[3] else f"(did D page c){name}"
         yield f"{m[1]} = {other}", m.start(3), m.end(3), other
-    for m in re.finditer(r"^(callOf \(\w+ c\)) = (c)$", text, re.M):
+    for m in re.finditer(r"^(call_of \(\w+ c\)) = (c)$", text, re.M):
         yield f"{m[1]} = views [] 0", m.start(2), m.end(2), "Call.views [] 0"
     for effect in FIELDS:
-        m = re.search(r"inRun \(λ d\. d \.answered\)", text)
+        m = re.search(r"in_run \(λ d\. d\.answered\)", text)
         if effect != "answered":
-            yield f"answeredBefore: {effect}", m.start(), m.end(), f"inRun (λ d. d .{effect})"
+            yield f"answered_before: {effect}", m.start(), m.end(), f"in_run (λ d. d.{effect})"
 
 
 def main():
@@ -70,7 +70,8 @@ def main():
     unnoticed = tried = 0
     with tempfile.TemporaryDirectory() as scratch:
         copy = os.path.join(scratch, "keeper")
-        shutil.copytree(ROOT, copy, ignore=shutil.ignore_patterns(".git"))
+        histories = os.path.join(copy, "crates", "histories")
+        shutil.copytree(ROOT, copy, ignore=shutil.ignore_patterns(".git", "target", "out"))
         for leaf, bends in (("Did.antt", clauses), ("Did.antt", fields), ("Runs.antt", folds)):
             path = os.path.join(copy, SPECS, leaf)
             with open(path, encoding="utf-8") as file:
@@ -80,9 +81,9 @@ def main():
                     continue
                 with open(path, "w", encoding="utf-8") as file:
                     file.write(text[:start] + other + text[end:])
-                run = subprocess.run(["rt", "dev", "histories"], cwd=copy, capture_output=True, text=True, check=False)
+                run = subprocess.run(["rt", "check"], cwd=histories, capture_output=True, text=True, check=False)
                 laws = re.findall(r"(?:error: |antt:[0-9:]+ )`([\w-]+)`", run.stdout + run.stderr)
-                steps = [law for law in laws if re.fullmatch(r"step-\d+|barred-repeat|cuts-count|requests-are", law)]
+                steps = [law for law in laws if re.fullmatch(r"step_\d+|barred_repeat|cuts_count|requests_are", law)]
                 tried += 1
                 unnoticed += not laws
                 said = f"{laws[0]}; witness: {', '.join(steps) or 'none'}" if laws else "UNNOTICED"

@@ -90,7 +90,7 @@ def bends(header, found):
 def main():
     library = pathlib.Path(sys.argv[1]) if len(sys.argv) > 1 else ROOT / "target" / "staticlib" / "libkeeper.a"
     if not library.is_file():
-        sys.exit(f"archive: {library} is missing; rt staticlib keeper builds the proved one")
+        sys.exit(f"archive: {library} is missing; tools/archive keeper builds the proved one")
     subprocess.run([ROOT / "tools" / "need", "gcc", "libc6-dev", "binutils"], check=True)
     header, found = (ROOT / "host" / "keeper.h").read_text(), seen(library)
     sentence = wrong(header, found)

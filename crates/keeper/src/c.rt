@@ -1,5 +1,5 @@
 // The keeper's C functions: a buffer is a pointer and then a length, and each returns one number. What they answer is
-// what the calls of the same names answer, by document 01's numbers.
+// what the calls of the same names answer, by document 01's numbers. The crate `keeper_c` exports them.
 ghost use Rattle.std.specs.Prelude.{◌≡◌};
 ghost use Rattle.answers.specs.Answers.{opened, performed, repeated, viewed, resumed, resumed_number};
 ghost use Rattle.answers.specs.Edition.{this_edition};

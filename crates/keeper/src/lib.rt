@@ -2,7 +2,7 @@
 // length of what it is lent; a refusal changes no byte. The form of record is said here: version 1, 16 racks.
 #![tactic(auto)]
 
-mod c;
+pub mod c;
 
 ghost use Rattle.std.specs.Prelude.{◌≡◌};
 ghost use Rattle.answers.specs.Answers.{opened, performed, repeated, viewed, resumed};

@@ -57,6 +57,7 @@ fn write_first(page: &[u8], answer: &mut [u8])
 
 // Lays the header, the first state and a summary at the front of the answer. The array of the first state is gone when this
 // returns, and its copy in the answer is what is hashed.
+#[inline(never)]
 fn lay_first(answer: &mut [u8], summary: &[u8])
     requires version1_in_bounds { record_size version1 ≤ length answer.old }
     requires summary_len { length summary.now ≡ hash_size }

@@ -95,17 +95,15 @@ fn word_at(a: &[u8], b: &[u8], c: &[u8], len: usize, k: usize) -> u32
 }
 
 // Block i of the padded message: its sixteen words, at the front of the 64 of a schedule.
-pub(crate) fn block_words(a: &[u8], b: &[u8], c: &[u8], len: usize, i: usize) -> [u32; 64]
+pub(crate) fn block_words(a: &[u8], b: &[u8], c: &[u8], len: usize, i: usize, w: &mut [u32; 64])
     requires within { Within (a.now ++ b.now ++ c.now) len }
     requires i_in_bounds { 64 * i + 64 ≤ length (a.now ++ b.now ++ c.now ++ padding len) }
-    ensures { take 16 result ≡ block (a.now ++ b.now ++ c.now ++ padding len) i }
+    ensures { take 16 w.new ≡ block (a.now ++ b.now ++ c.now ++ padding len) i }
 {
     let at = 64 * i;
-    let mut w = [0; 64];
     let mut t = 0;
     while t < 16 {
         w[t] = word_at(a, b, c, len, at + 4 * t);
         t += 1;
     }
-    w
 }

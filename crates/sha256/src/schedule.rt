@@ -15,7 +15,8 @@ pub(crate) fn schedule(a: &[u8], b: &[u8], c: &[u8], len: usize, i: usize) -> [u
     requires i_in_bounds { 64 * i + 64 ≤ length (a.now ++ b.now ++ c.now ++ padding len) }
     ensures { result ≡ W (block (a.now ++ b.now ++ c.now ++ padding len) i) }
 {
-    let mut w = block_words(a, b, c, len, i);
+    let mut w = [0; 64];
+    block_words(a, b, c, len, i, &mut w);
     let mut n = 0;
     while n < 48 {
         w[n + 16] = next_word(w[n + 14], w[n + 9], w[n + 1], w[n]);

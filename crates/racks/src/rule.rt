@@ -6,7 +6,6 @@ ghost use Rattle.racks.specs.Rule.{good_rack, good_state};
 use crate::{AMOUNT_LIMIT, FLOW_LIMIT, RACK_SIZE, Rack, read_rack};
 
 // Whether r keeps the rule.
-#[tactic(auto, unfolding(crate::specs::Rule::good_rack))]
 pub fn good_rack(r: Rack) -> bool
     ensures { result ≡ good_rack r }
 {

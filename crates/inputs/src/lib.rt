@@ -8,14 +8,14 @@ use std::io;
 use std::io::{ErrorKind, Read};
 
 // The byte that an item begins with, unless the input ends before it.
-#[derive(Drop)]
+#[derive(Clone, Copy)]
 pub enum Tag {
     Byte(u8),
     End,
 }
 
 // A part of an item: how many bytes it has, or a number; or that it is cut short or does not fit its room.
-#[derive(Drop)]
+#[derive(Clone, Copy)]
 pub enum Part {
     Bytes(usize),
     Bad,

@@ -1,5 +1,5 @@
 -- FIPS 180-4, section 3: words of 32 bits and the operations on them. A word is a number below 2 ^ 32, a byte one below
--- 256; bitAnd, bitOr and bitXor are the checker's library's. Assumes nothing.
+-- 256; bit_and, bit_or and bit_xor are the checker's library's. Assumes nothing.
 use Rattle.std.specs.Prelude.{ℕ, ◌+◌, ◌-◌, ◌*◌, ◌/◌, ◌%◌, ◌^◌, List, bit_and, bit_or, bit_xor, slice_index}
 
 infixl 70 ◌⊞◌

@@ -5,13 +5,13 @@ use mathlib.Core.Bool.{Bool, true, false}
 use Prim.Native.Nat.{ℕ}
 use native.Mathlib.Omega.{arith}
 use mathlib.Core.List.{List}
+use Rattle.std.specs.Prelude.{Ok, Err}
 use Rattle.numbers.specs.Comparing.{same}
 use Rattle.numbers.proofs.Comparison.{same_iff}
 use Rattle.refusals.specs.declared.Refusal.{Refusal}
 use Rattle.refusals.specs.declared.Refusal.TheVariants.{Page, Answer, Record, Version, State, Request, Authenticator, Current, Capacity, Stored, Limit, Total, Fresh}
 use Rattle.refusals.specs.Numbers.{number_of}
-use Rattle.records.specs.declared.Tested.{Tested}
-use Rattle.records.specs.declared.Tested.TheVariants.{Passed, Refused}
+use Rattle.refusals.specs.Tested.{Tested}
 use Rattle.answers.specs.Design.{Design, Served}
 use Rattle.answers.specs.Hashing.{next_summary, binding_in, valid}
 use Rattle.answers.specs.Judging.{Verdict, judged, by_service, offered, perform_verdict, repeat_verdict}
@@ -39,17 +39,17 @@ no_zero Fresh e = omega arith
 
 -- what the tests say that give a good verdict
 record Found (t : Tested) (is_valid is_current : Bool) (s : Served) (state : List ℕ) : Type 0 where
-  passed : t ≡ Passed
+  passed : t ≡ Ok tt
   validity : is_valid ≡ true
   currency : is_current ≡ true
   carries : s ≡ Served.carried state
 
 found : (t : Tested) (v c : Bool) (s : Served) (state : List ℕ) → judged t v c (by_service s) ≡ Verdict.good state → Found t v c s state
-found (Refused r) v c s state e = let z : ◌≡◌ {A = ℕ} 0 1 = cc in absurd (omega arith)
-found Passed false c s state e = let z : ◌≡◌ {A = ℕ} 0 1 = cc in absurd (omega arith)
-found Passed true false s state e = let z : ◌≡◌ {A = ℕ} 0 1 = cc in absurd (omega arith)
-found Passed true true (Served.barred r) state e = let z : ◌≡◌ {A = ℕ} 0 1 = cc in absurd (omega arith)
-found Passed true true (Served.carried next) state e = record { passed = refl; validity = refl; currency = refl; carries = cc }
+found (Err r) v c s state e = let z : ◌≡◌ {A = ℕ} 0 1 = cc in absurd (omega arith)
+found (Ok x) false c s state e = let z : ◌≡◌ {A = ℕ} 0 1 = cc in absurd (omega arith)
+found (Ok x) true false s state e = let z : ◌≡◌ {A = ℕ} 0 1 = cc in absurd (omega arith)
+found (Ok x) true true (Served.barred r) state e = let z : ◌≡◌ {A = ℕ} 0 1 = cc in absurd (omega arith)
+found (Ok x) true true (Served.carried next) state e = record { passed = refl; validity = refl; currency = refl; carries = cc }
 
 -- what is answered with the number 0 is a good verdict
 record Good (v : Verdict) : Type 0 where
@@ -125,14 +125,14 @@ accepted_just_where D = record { performs = perform_passed D; perform_answers = 
 -- ---- open
 
 module _ (D : Design) (page answer : List ℕ) where
-  passed-opened : (t : Tested) → (opened_by D page answer t).number ≡ 0 → t ≡ Passed
-  passed-opened Passed e = refl
-  passed-opened (Refused r) e = absurd (no_zero r e)
+  passed-opened : (t : Tested) → (opened_by D page answer t).number ≡ 0 → t ≡ Ok tt
+  passed-opened (Ok x) e = refl
+  passed-opened (Err r) e = absurd (no_zero r e)
 
-  pub open_passed : (opened D page answer).number ≡ 0 → open_tests D page answer ≡ Passed
+  pub open_passed : (opened D page answer).number ≡ 0 → open_tests D page answer ≡ Ok tt
   unfolding opened
   open_passed e = passed-opened (open_tests D page answer) e
 
-  pub open_is : open_tests D page answer ≡ Passed → opened D page answer ≡ opened_by D page answer Passed
+  pub open_is : open_tests D page answer ≡ Ok tt → opened D page answer ≡ opened_by D page answer (Ok tt)
   unfolding opened
   open_is e = ap (opened_by D page answer) e

@@ -5,13 +5,13 @@ use Prim.Native.Nat.{ℕ, ◌<◌}
 use mathlib.Core.List.{List}
 use lib.ListN.{length}
 use borrow.Author.Tests.{eq-eqb, lt-ltb}
+use Rattle.std.specs.Prelude.{Ok}
 use Rattle.numbers.specs.Numbers.{Bytes}
 use Rattle.racks.specs.Racks.{first_state}
 use Rattle.racks.specs.Layout.{state_of, bytes_of_state}
 use Rattle.racks.specs.Figures.{total_stored}
 use Rattle.racks.specs.Edition.{racks}
 use Rattle.racks.proofs.FirstState.{total-first_state}
-use Rattle.records.specs.declared.Tested.TheVariants.{Passed}
 use Rattle.records.specs.Page.{hash_size, page_of}
 use Rattle.records.proofs.PageBytes.{page_key_lem, length_page}
 use Rattle.answers.specs.Judging.{Verdict, shown, looked, resume_verdict}
@@ -31,7 +31,7 @@ module _ (key s : List ℕ) (k : length key ≡ hash_size) (w : length s ≡ has
   views_first : (rack : ℕ) → rack < racks → (viewed this_edition (page_of s key) (first_bound key s) rack).number ≡ 0
   unfolding viewed
   views_first rack inside =
-      let passed : looked this_edition (page_of s key) (first_bound key s) rack ≡ Passed =
+      let passed : looked this_edition (page_of s key) (first_bound key s) rack ≡ Ok tt =
       rw (eq-eqb _ _ (length_page s key w k), (first_stands key s k w).passes, lt-ltb rack racks inside) in
       ap (λ v. (viewed_by this_edition rack v).number) ((first_stands key s k w).views rack passed ∙ shows rack)
 

@@ -5,9 +5,9 @@ use Prim.Native.Nat.{ℕ}
 use native.Mathlib.Decide.{ℕ_discrete}
 use mathlib.Core.List.{List}
 use borrow.Author.Tests.{eqb-true}
+use Rattle.std.specs.Prelude.{Ok, Err}
+use Rattle.refusals.specs.Tested.{Tested}
 use Rattle.records.specs.Form.{Form}
-use Rattle.records.specs.declared.Tested.{Tested}
-use Rattle.records.specs.declared.Tested.TheVariants.{Passed, Refused}
 use Rattle.records.specs.Page.{page_key, page_of}
 use Rattle.records.specs.Record.{summary}
 use Rattle.answers.specs.Design.{Design}
@@ -23,8 +23,8 @@ use Rattle.answers.proofs.ReadsBack.{length_next}
 
 -- over any design, open and repeat leave the whole page
 open_leaves : (D : Design) (page answer : List ℕ) (t : Tested) → (opened_by D page answer t).page ≡ page
-open_leaves D page answer (Refused r) = refl
-open_leaves D page answer Passed = refl
+open_leaves D page answer (Err r) = refl
+open_leaves D page answer (Ok x) = refl
 
 repeat_leaves : (D : Design) (page l request answer : List ℕ) (v : Verdict) → (answered_by D page l request answer page v).page ≡ page
 repeat_leaves D page l request answer (Verdict.early r) = refl

@@ -5,13 +5,13 @@ use mathlib.Core.Bool.{true}
 use Prim.Native.Nat.{ℕ}
 use mathlib.Core.List.{List, []}
 use lib.ListN.{length}
+use Rattle.std.specs.Prelude.{Ok}
 use Rattle.numbers.proofs.Comparison.{same_iff}
 use Rattle.racks.specs.Rule.{good_state}
 use Rattle.racks.specs.Layout.{state_of}
 use Rattle.bindings.specs.Hashed.{authenticator_of}
 use Rattle.bindings.proofs.Hashes.{length_authenticator}
 use Rattle.records.specs.Form.{Form}
-use Rattle.records.specs.declared.Tested.TheVariants.{Passed}
 use Rattle.records.specs.Page.{hash_size, page_key}
 use Rattle.records.specs.Record.{state_size, record_size, record_of, right_state}
 use Rattle.records.specs.Tests.{tested}
@@ -52,7 +52,7 @@ module _ (f : Form) (page s state : List ℕ) (wide : length s ≡ hash_size) (s
         validity = reads-valid (design f) after _ state s state_is summary_is authenticator_is;
       }
 
-  pub bound-passes : Fits f → good_state (state_of f.racks state) ≡ true → tested f (bound_record (design f) page s state) ≡ Passed
+  pub bound-passes : Fits f → good_state (state_of f.racks state) ≡ true → tested f (bound_record (design f) page s state) ≡ Ok tt
   unfolding right_state
   bound-passes fits good =
       let au = authenticator_of (page_key page) [] (binding_of (design f) s state) in

@@ -3,8 +3,8 @@
 use mathlib.Core.Path.{◌≡◌, refl}
 use Prim.Native.Nat.{ℕ}
 use mathlib.Core.List.{List}
-use Rattle.records.specs.declared.Tested.{Tested}
-use Rattle.records.specs.declared.Tested.TheVariants.{Passed, Refused}
+use Rattle.std.specs.Prelude.{Ok, Err}
+use Rattle.refusals.specs.Tested.{Tested}
 use Rattle.answers.specs.Design.{Design}
 use Rattle.answers.specs.Judging.{Verdict, perform_verdict, repeat_verdict, view_verdict}
 use Rattle.answers.specs.Hashing.{next_summary}
@@ -13,8 +13,8 @@ use Rattle.answers.specs.Unchanged.{OpenUnchanged, Unchanged, RefusalsChangeNoth
 
 -- open, by what its tests find
 open_stays : (D : Design) (page answer : List ℕ) (t : Tested) → ((opened_by D page answer t).number ≡ 0 → ⊥) → OpenUnchanged page answer (opened_by D page answer t)
-open_stays D page answer (Refused r) other = record { page_stays = refl; answer_stays = refl }
-open_stays D page answer Passed other = absurd (other refl)
+open_stays D page answer (Err r) other = record { page_stays = refl; answer_stays = refl }
+open_stays D page answer (Ok x) other = absurd (other refl)
 
 -- perform and repeat, by their verdict
 stays : (D : Design) (page l request answer after : List ℕ) (v : Verdict) → ((answered_by D page l request answer after v).number ≡ 0 → ⊥)

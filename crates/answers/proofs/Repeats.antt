@@ -6,11 +6,11 @@ use native.Mathlib.Omega.{arith}
 use mathlib.Core.List.{List, []}
 use lib.ListN.{length}
 use borrow.Author.Tests.{eqb-true, eq-eqb}
+use Rattle.std.specs.Prelude.{Ok}
 use Rattle.numbers.specs.Parts.{over}
 use Rattle.numbers.proofs.Parts.{length_part}
 use Rattle.bindings.specs.Hashed.{authenticator_of}
 use Rattle.records.specs.Form.{Form}
-use Rattle.records.specs.declared.Tested.TheVariants.{Passed}
 use Rattle.records.specs.Page.{hash_size, page_size}
 use Rattle.records.specs.Record.{state_size, summary}
 use Rattle.records.specs.Tests.{tested}
@@ -22,13 +22,13 @@ use Rattle.answers.specs.Accepting.{PerformPassing}
 use Rattle.answers.specs.RepeatIsPerform.{SameAnswer, OwnPage, RepeatIsPerform}
 use Rattle.answers.proofs.Accepted.{perform_is, repeat_passed, repeat_is}
 use Rattle.answers.proofs.Pages.{summary_put, key_put, length_put}
-use Rattle.answers.proofs.States.{tests-passed}
+use Rattle.records.proofs.TestCases.{tests_passed}
 use Rattle.answers.proofs.Records.{bound_key}
 
 -- a record that has passed its tests has a summary of 32 bytes
-pub length_summary : (f : Form) (l : List ℕ) → tested f l ≡ Passed → length (summary f l) ≡ hash_size
+pub length_summary : (f : Form) (l : List ℕ) → tested f l ≡ Ok tt → length (summary f l) ≡ hash_size
 length_summary f l passed =
-    length_part (3 + state_size f) hash_size l (omega (arith, right_length f l (tests-passed f l passed).0))
+    length_part (3 + state_size f) hash_size l (omega (arith, right_length f l (tests_passed f l passed).0))
 
 module _ (f : Form) where
   own_page : (page l request answer : List ℕ) → (repeated (design f) page l request answer).number ≡ 0 → OwnPage f page l (over 0 (summary f l) page)

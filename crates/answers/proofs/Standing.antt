@@ -6,12 +6,12 @@ use Prim.Native.Nat.{ℕ}
 use mathlib.Core.List.{List}
 use lib.ListN.{length}
 use borrow.Author.Tests.{eqb-true, eq-eqb}
+use Rattle.std.specs.Prelude.{Ok}
 use Rattle.numbers.proofs.Comparison.{same_iff}
 use Rattle.racks.specs.Racks.{first_state}
 use Rattle.racks.specs.Layout.{bytes_of_state}
 use Rattle.records.proofs.FormLaws.{Fits}
 use Rattle.records.specs.Form.{Form}
-use Rattle.records.specs.declared.Tested.TheVariants.{Passed}
 use Rattle.records.specs.Page.{hash_size, page_size, zero_summary}
 use Rattle.records.specs.Record.{summary, state_bytes}
 use Rattle.records.specs.Tests.{tested}
@@ -29,7 +29,7 @@ use Rattle.answers.proofs.Records.{bound-passes}
 use Rattle.answers.proofs.ReadsBack.{length-zero_summary, length_next, reads_back}
 
 -- over any design: what makes a record current on a page
-pub stands : (D : Design) (page l state summary : List ℕ) → D.right_page page ≡ true → D.tested l ≡ Passed → Reads D page l state summary
+pub stands : (D : Design) (page l state summary : List ℕ) → D.right_page page ≡ true → D.tested l ≡ Ok tt → Reads D page l state summary
     → D.page_summary page ≡ summary → Stands D page l state
 unfolding perform_verdict view_verdict resume_verdict
 stands D page l state summary right passes reads holds =
@@ -43,7 +43,7 @@ stands D page l state summary right passes reads holds =
 
 module _ (f : Form) (fits : Fits f) where
   -- a good state bound to a summary passes the tests, whatever page it was bound on
-  passes : (page s state l : List ℕ) → length s ≡ hash_size → GoodBytes f.racks state → l ≡ bound_record (design f) page s state → tested f l ≡ Passed
+  passes : (page s state l : List ℕ) → length s ≡ hash_size → GoodBytes f.racks state → l ≡ bound_record (design f) page s state → tested f l ≡ Ok tt
   passes page s state l wide good is = ap (tested f) is ∙ bound-passes f page s state wide good.size fits good.good
 
   open_stands : (page answer : List ℕ) → (opened (design f) page answer).number ≡ 0
@@ -55,7 +55,7 @@ module _ (f : Form) (fits : Fits f) where
       (passes _ zero_summary _ _ length-zero_summary (first_good f.racks) w.1.is) w.1.reads w.0
 
   -- what perform or repeat has answered, on a page of its size, from a record that has passed its tests
-  answered_stands : (l request answer : List ℕ) (p : Performed) → Answered (design f) l request answer p → tested f l ≡ Passed
+  answered_stands : (l request answer : List ℕ) (p : Performed) → Answered (design f) l request answer p → tested f l ≡ Ok tt
       → length p.page ≡ page_size → Stands (design f) p.page (front (design f) p.answer) (state_bytes f (front (design f) p.answer))
   answered_stands l request answer p w passed long =
       let good = served_good f.racks (state_bytes f l) request w.state (record_good f l passed) w.carries in

@@ -17,11 +17,12 @@ use Rattle.racks.proofs.FirstState.{length-first_state, good_first_state}
 use Rattle.rules.specs.Replay.{Booked, book}
 use Rattle.rules.proofs.Replays.{kept_book}
 use Rattle.records.specs.Form.{Form}
-use Rattle.records.specs.declared.Tested.TheVariants.{Passed, Refused}
 use Rattle.records.specs.Record.{state_bytes, right_size, right_version, right_state}
 use Rattle.records.specs.Tests.{tested}
 use Rattle.answers.specs.Design.{Served}
 use Rattle.answers.specs.Edition.{in_bytes, served_bytes}
+use Rattle.std.specs.Prelude.{Ok, Err}
+use Rattle.records.proofs.TestCases.{tests_passed}
 
 -- the bytes of n racks that keep the state rule
 pub record GoodBytes (n : ℕ) (state : List ℕ) : Type 0 where
@@ -41,20 +42,9 @@ first_good n = good_bytes n (first_state n) (length-first_state n) (good_first_s
 
 -- ---- a record that has passed the tests 3, 4 and 5
 
-all_three : (a b c : Bool) → cond a (cond b (cond c Passed (Refused StateRefusal)) (Refused Version)) (Refused Record) ≡ Passed
-    → (a ≡ true) × (b ≡ true) × (c ≡ true)
-all_three false b c e = let z : ◌≡◌ {A = ℕ} 0 1 = cc in absurd (omega arith)
-all_three true false c e = let z : ◌≡◌ {A = ℕ} 0 1 = cc in absurd (omega arith)
-all_three true true false e = let z : ◌≡◌ {A = ℕ} 0 1 = cc in absurd (omega arith)
-all_three true true true e = (refl, refl, refl)
-
-pub tests-passed : (f : Form) (l : List ℕ) → tested f l ≡ Passed → (right_size f l ≡ true) × (right_version f l ≡ true) × (right_state f l ≡ true)
-unfolding tested
-tests-passed f l e = all_three (right_size f l) (right_version f l) (right_state f l) e
-
-pub record_good : (f : Form) (l : List ℕ) → tested f l ≡ Passed → good_state (state_of f.racks (state_bytes f l)) ≡ true
+pub record_good : (f : Form) (l : List ℕ) → tested f l ≡ Ok tt → good_state (state_of f.racks (state_bytes f l)) ≡ true
 unfolding right_state
-record_good f l e = (tests-passed f l e).2
+record_good f l e = (tests_passed f l e).2
 
 -- ---- what a request leads to
 

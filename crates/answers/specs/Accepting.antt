@@ -1,7 +1,6 @@
 -- Document 01, 'The five calls': what perform and repeat need. They are accepted just where the tests 1 to 7 pass, the record is current
 -- as the call defines it, and the charge rules carry the request out. Assumes nothing.
-use Rattle.std.specs.Prelude.{◌≡◌, true, ℕ, ◌≤◌, List, length}
-use Rattle.records.specs.declared.Tested.TheVariants.{Passed}
+use Rattle.std.specs.Prelude.{◌≡◌, true, ℕ, ◌≤◌, List, length, Ok}
 use Rattle.answers.specs.Design.{Design, Served}
 use Rattle.answers.specs.Hashing.{next_summary, binding_in}
 use Rattle.answers.specs.Judging.{Verdict}
@@ -11,7 +10,7 @@ use Rattle.answers.specs.Answers.{answered_by, performed, repeated}
 pub record Passing (D : Design) (page l request answer summary state : List ℕ) : Type 0 where
   pub right : D.right_page page ≡ true
   pub room : D.record_size ≤ length answer
-  pub tests : D.tested l ≡ Passed
+  pub tests : D.tested l ≡ Ok tt
   pub formed : D.formed request ≡ true
   pub authentic : D.authenticator l ≡ D.mac page (binding_in D l)
   pub current : summary ≡ D.page_summary page

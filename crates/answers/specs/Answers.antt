@@ -1,13 +1,12 @@
 -- Document 01, 'The five calls': what each call answers, for every content and length of what it is lent. An answer is 01's number,
 -- the figures, and what the page and the answer buffer hold afterwards. A refusal gives its number, zeros for every other figure,
 -- and both as they were. Assumes nothing.
-use Rattle.std.specs.Prelude.{ℕ, Bool, true, false, List, length, leb}
+use Rattle.std.specs.Prelude.{ℕ, Bool, true, false, List, length, leb, Ok, Err}
 use Rattle.numbers.specs.Parts.{over}
 use Rattle.numbers.specs.Comparing.{same}
 use Rattle.refusals.specs.declared.Refusal.TheVariants.{Page, Answer, Fresh}
 use Rattle.refusals.specs.Numbers.{number_of}
-use Rattle.records.specs.declared.Tested.{Tested}
-use Rattle.records.specs.declared.Tested.TheVariants.{Passed, Refused}
+use Rattle.refusals.specs.Tested.{Tested}
 use Rattle.records.specs.Page.{zero_summary}
 use Rattle.answers.specs.Design.{Design, Figures}
 use Rattle.answers.specs.Hashing.{next_summary, bound_record}
@@ -30,8 +29,8 @@ open_tests D page answer =
 
 -- the first record, with summary zero and its authenticator; the page stays as it is
 abbrev pub opened_by : Design → List ℕ → List ℕ → Tested → Outcome
-opened_by D page answer (Refused r) = record { number = number_of r; page = page; answer = answer }
-opened_by D page answer Passed = record { number = 0; page = page; answer = over 0 (bound_record D page zero_summary D.first_bytes) answer }
+opened_by D page answer (Err r) = record { number = number_of r; page = page; answer = answer }
+opened_by D page answer (Ok x) = record { number = 0; page = page; answer = over 0 (bound_record D page zero_summary D.first_bytes) answer }
 
 unfoldable pub opened : Design → List ℕ → List ℕ → Outcome
 opened D page answer = opened_by D page answer (open_tests D page answer)

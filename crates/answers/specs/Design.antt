@@ -3,7 +3,7 @@
 -- cross forms of record, so that these are parts of one design and not designs of their own. Assumes nothing.
 use Rattle.std.specs.Prelude.{ℕ, Bool, List}
 use Rattle.refusals.specs.declared.Refusal.{Refusal}
-use Rattle.records.specs.declared.Tested.{Tested}
+use Rattle.refusals.specs.Tested.{Tested}
 
 -- what the service makes of a request on a state's bytes: the next state's bytes, or the charge rule that bars it
 pub data Served : Type 0 where

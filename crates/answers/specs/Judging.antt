@@ -1,25 +1,24 @@
 -- Document 01, 'Numbers of refusal': the tests of the calls that are offered a record, in the order of the numbers. The first that
 -- applies is the answer. What the tests find is one verdict, from which all else follows: what the call answers, and, in the
 -- histories, what it found valid, took as current, answered and moved. Assumes nothing.
-use Rattle.std.specs.Prelude.{ℕ, Bool, true, false, cond, List, length, leb, ltb, ◌^◌}
+use Rattle.std.specs.Prelude.{ℕ, Bool, true, false, cond, List, length, leb, ltb, ◌^◌, Ok, Err}
 use Rattle.numbers.specs.Comparing.{same}
 use Rattle.refusals.specs.declared.Refusal.{Refusal}
 use Rattle.refusals.specs.declared.Refusal.TheVariants.{Page, Answer, Request, Authenticator, Current, Total}
 use Rattle.refusals.specs.Numbers.{number_of}
-use Rattle.records.specs.declared.Tested.{Tested}
-use Rattle.records.specs.declared.Tested.TheVariants.{Passed, Refused}
+use Rattle.refusals.specs.Tested.{Tested}
 use Rattle.answers.specs.Design.{Design, Served}
 use Rattle.answers.specs.Hashing.{next_summary, valid}
 
 -- a test by itself: refused unless it holds
 abbrev pub unless : Bool → Refusal → Tested
-unless true r = Passed
-unless false r = Refused r
+unless true r = Ok tt
+unless false r = Err r
 
 -- one test after another
 abbrev pub and_then : Tested → Tested → Tested
-and_then (Refused r) next = Refused r
-and_then Passed next = next
+and_then (Err r) next = Err r
+and_then (Ok x) next = next
 
 -- what the tests of an offered record find: one of the tests before 7 refuses it; 7: its authenticator is not valid; 8: it is not
 -- current; it is current and one of the tests behind 8 refuses it; or it is good, and leads to a state's bytes
@@ -40,8 +39,8 @@ after_early false current next = forged
 after_early true current next = after_valid current next
 
 abbrev pub judged : Tested → Bool → Bool → Verdict → Verdict
-judged (Refused r) valid current next = early r
-judged Passed valid current next = after_early valid current next
+judged (Err r) valid current next = early r
+judged (Ok x) valid current next = after_early valid current next
 
 -- past them, perform and repeat have what the service makes of the request
 abbrev pub by_service : Served → Verdict

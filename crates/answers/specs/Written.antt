@@ -1,8 +1,7 @@
 -- What open, perform and repeat write when they accept: a record at the front of the answer buffer, which reads back as what was bound
 -- and is current on the page then left, and no other byte of the buffer. Assumes nothing.
-use Rattle.std.specs.Prelude.{◌≡◌, true, ℕ, List, length, drop}
+use Rattle.std.specs.Prelude.{◌≡◌, true, ℕ, List, length, drop, Ok}
 use Rattle.numbers.specs.Parts.{part}
-use Rattle.records.specs.declared.Tested.TheVariants.{Passed}
 use Rattle.records.specs.Page.{zero_summary}
 use Rattle.answers.specs.Design.{Design, Served}
 use Rattle.answers.specs.Hashing.{next_summary, binding_of, valid, bound_record}
@@ -21,11 +20,11 @@ pub record Reads (D : Design) (page l state summary : List ℕ) : Type 0 where
 -- it passes the tests 3, 4 and 5 and is current: resume hands it back, and where the tests before 7 pass, perform and view get past 8
 -- and go on with the state
 pub record Stands (D : Design) (page l state : List ℕ) : Type 0 where
-  pub passes : D.tested l ≡ Passed
+  pub passes : D.tested l ≡ Ok tt
   pub resumes : resume_verdict D page l ≡ Verdict.good state
-  pub performs : (request answer : List ℕ) → offered D page l request answer ≡ Passed
+  pub performs : (request answer : List ℕ) → offered D page l request answer ≡ Ok tt
       → perform_verdict D page l request answer ≡ by_service (D.served state request)
-  pub views : (rack : ℕ) → looked D page l rack ≡ Passed → view_verdict D page l rack ≡ shown D state rack
+  pub views : (rack : ℕ) → looked D page l rack ≡ Ok tt → view_verdict D page l rack ≡ shown D state rack
 
 -- ---- what a call has written
 

@@ -19,7 +19,7 @@ use Rattle.hmac.specs.declared.Prepared.{Prepared}
 use Rattle.hmac.specs.Preparation.{mac_of}
 use Rattle.bindings.specs.Hashed.{binding_of}
 use Rattle.bindings.specs.Sealing.{own_authenticator, sealed, sealed_record}
-use Rattle.bindings.proofs.Hashes.{length-mac}
+use Rattle.bindings.proofs.Hashes.{length-mac, length-next_summary}
 
 -- a page's key can be prepared, and its summary is one
 pub key_short : (page : List ℕ) → length page ≡ page_size → length (page_key page) ≤ 64
@@ -48,6 +48,11 @@ module _ (f : Form) (l : List ℕ) (room : record_size f ≤ length l) where
       let place : m - hash_size ≡ 3 + state_size f + hash_size = omega arith in
       let state : state_bytes f (take m l) ≡ state_bytes f l = part-part 0 m 3 (state_size f) l (omega arith) in
       laid ∙ rw (place, own, state, front_summary m all)
+
+-- for what seals it, and for what reads or lays its parts
+pub ruleset seals = (sealed-front)
+
+pub ruleset lengths = (length_state, length_summary, length-page_summary, length-next_summary)
 
 -- three pieces, laid one behind the other
 pub laid_3 : (h st su x y z w : List ℕ) → length h + (length st + length su) ≤ length x → y ≡ over 0 h x → z ≡ over (length h) st y → w ≡ over (length h + length st) su z

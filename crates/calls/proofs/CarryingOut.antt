@@ -6,11 +6,11 @@ use native.Mathlib.Nat.{mul-div_cancel}
 use mathlib.Core.List.{List}
 use lib.ListN.{length}
 use lib.Dec.{lit<}
+use Rattle.std.specs.Prelude.{Ok}
+use Rattle.refusals.specs.Tested.{Tested}
 use Rattle.racks.specs.Layout.{rack_size, state_of}
 use Rattle.requests.specs.declared.Request.{Request}
 use Rattle.requests.specs.Range.{Named, InRange}
-use Rattle.rules.specs.declared.Ruling.{Ruling}
-use Rattle.rules.specs.declared.Ruling.TheVariants.{Free}
 use Rattle.rules.specs.Rules.{ruling}
 use Rattle.rules.specs.Ready.{racks_in, state_in, Ready}
 use Rattle.records.specs.Form.{Form}
@@ -30,9 +30,9 @@ module _ (f : Form) (l : List ℕ) (q : Request) (room : record_size f ≤ lengt
   named s is among = rw (is, count) among
 
   -- what is judged on the bytes is judged on the record's state
-  pub judged : (s : List ℕ) (w : Ruling) → s ≡ state_bytes f l → w ≡ ruling (state_in s) q → w ≡ ruling (state f l) q
+  pub judged : (s : List ℕ) (w : Tested) → s ≡ state_bytes f l → w ≡ ruling (state_in s) q → w ≡ ruling (state f l) q
   judged s w is e = rw (is, state_in_lem) at e
 
   -- a request that nothing bars can be carried out
-  pub ready : InRange f.racks q → ruling (state f l) q ≡ Free → Ready (state_bytes f l) q
+  pub ready : InRange f.racks q → ruling (state f l) q ≡ Ok tt → Ready (state_bytes f l) q
   ready range free = record { whole = rw (count, length_state f l room); range = rw count range; free = rw state_in_lem free }

@@ -1,7 +1,6 @@
 // Carrying a request out: tests 9 to 11, and the next state, laid where it goes.
 ghost use Rattle.std.specs.Prelude.{◌≡◌, [], ◌∷◌, ◌≤◌, length};
 ghost use Rattle.numbers.specs.Parts.{over, join};
-ghost use Rattle.requests.specs.Range.{Named};
 ghost use Rattle.rules.specs.Rules.{ruling};
 ghost use Rattle.rules.specs.Ready.{Ready};
 ghost use Rattle.records.specs.Form.{form_of};
@@ -10,37 +9,40 @@ ghost use Rattle.records.specs.Record.{record_size, state_bytes, state, header};
 ghost use Rattle.calls.specs.Next.{next_bytes, next_stored};
 
 use bindings::lay;
-use records::{Form, HEADER_SIZE, header_of, state_end, state_part};
+use offers::Offer;
+use records::{Form, HEADER_SIZE, Record};
+use refusals::Refusal;
 use requests::Request;
-use rules::{Ruling, carry_out, judge};
+use rules::{carry_out, judge};
 
-// The charge rules' ruling, tests 9 to 11, on a record's state.
-pub(crate) fn judge_record(record: &[u8], q: Request, form: Form) -> Ruling
-    requires record_len { length «record».now ≡ record_size (form_of form) }
-    requires named { Named (form_of form).racks q }
-    ensures { result ≡ ruling (state (form_of form) «record».now) q }
+// The charge rules' ruling, tests 9 to 11, on the record's state.
+#[tactic(auto, using(crate::proofs::CarryingOut::named, crate::proofs::CarryingOut::judged))]
+pub(crate) fn judge_offer(offer: &Offer<'_>) -> Result<(), Refusal>
+    ensures { result ≡ ruling (state (form_of offer.now.«record».form) offer.now.«record».bytes.now) offer.now.asks }
 {
-    judge(state_part(record, form), q)
+    judge(offer.record.state(), offer.asks)
 }
 
 // Lays the form's header, a record's state and a summary at the front of the answer.
-pub(crate) fn lay_state(answer: &mut [u8], record: &[u8], summary: &[u8], form: Form)
-    requires form_in_bounds { record_size (form_of form) ≤ length answer.old }
-    requires record_len { length «record».now ≡ record_size (form_of form) }
+#[tactic(auto, using(bindings::proofs::Seals::lengths))]
+pub(crate) fn lay_state(answer: &mut [u8], r: &Record<'_>, summary: &[u8])
+    requires room { record_size (form_of r.now.form) ≤ length answer.old }
     requires summary_len { length summary.now ≡ hash_size }
-    ensures { answer.new ≡ over 0 (join (header (form_of form) ∷ state_bytes (form_of form) «record».now ∷ summary.now ∷ [])) answer.old }
+    ensures { answer.new ≡ over 0 (join (header (form_of r.now.form) ∷ state_bytes (form_of r.now.form) r.now.bytes.now ∷ summary.now ∷ [])) answer.old }
 {
-    let header = header_of(form);
-    lay(answer, &header, state_part(record, form), summary);
+    let header = r.form.header();
+    lay(answer, &header, r.state(), summary);
 }
 
-// Carries a request out on the state that lies in the answer; what is stored in its rack then.
-pub(crate) fn carry(answer: &mut [u8], q: Request, form: Form) -> u32
-    requires form_in_bounds { record_size (form_of form) ≤ length answer.old }
-    requires ready { Ready (state_bytes (form_of form) answer.old) q }
-    ensures answer_after { answer.new ≡ over 3 (next_bytes (form_of form) answer.old q) answer.old }
-    ensures value { result ≡ next_stored (form_of form) answer.old q }
+// Carries a request out on the state that lies in the answer; what is stored in its rack then. That nothing bars it is
+// asked: a type that said so would be of the offer, and each promise would have to lead back from it to the offer.
+#[tactic(auto, using(crate::proofs::Writing::carrying))]
+pub(crate) fn carry(answer: &mut [u8], asks: Request, form: Form) -> u32
+    requires room { record_size (form_of form) ≤ length answer.old }
+    requires ready { Ready (state_bytes (form_of form) answer.old) asks }
+    ensures answer_after { answer.new ≡ over 3 (next_bytes (form_of form) answer.old asks) answer.old }
+    ensures value { result ≡ next_stored (form_of form) answer.old asks }
 {
-    let end = state_end(form);
-    carry_out(&mut answer[HEADER_SIZE..end], q)
+    let end = form.state_end();
+    carry_out(&mut answer[HEADER_SIZE..end], asks)
 }

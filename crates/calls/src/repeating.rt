@@ -3,93 +3,69 @@
 ghost use Rattle.std.specs.Prelude.{◌≡◌, ◌≤◌, length};
 ghost use Rattle.numbers.specs.Parts.{over};
 ghost use Rattle.numbers.specs.Comparing.{same};
-ghost use Rattle.requests.specs.Layout.{request_size};
 ghost use Rattle.rules.specs.Ready.{Ready};
 ghost use Rattle.records.specs.Form.{form_of};
-ghost use Rattle.records.specs.Page.{page_size, page_summary};
+ghost use Rattle.records.specs.Page.{page_summary};
 ghost use Rattle.records.specs.Record.{record_size, state_bytes};
-ghost use Rattle.hmac.specs.Preparation.{halves};
 ghost use Rattle.answers.specs.Answers.{repeated};
 ghost use Rattle.answers.specs.Edition.{design};
 ghost use Rattle.calls.specs.Told.{told};
 ghost use Rattle.calls.specs.Next.{moved_on, next_stored, next_record};
 
-use crate::PerformAnswer;
-use crate::carrying::{carry, judge_record, lay_state};
+use crate::carrying::{carry, judge_offer, lay_state};
 use bindings::{next_summary, prepared, seal};
+use hmac::Prepared;
 use numbers::same;
 use offers::{Offer, test_offer, valid};
-use records::{Form, page_summary, summary_part};
+use records::{Form, Page};
 use refusals::Refusal;
-use requests::Request;
-use rules::Ruling;
 
 // The next record is laid at the front of the answer, as perform laid it; the page stays.
+#[tactic(auto, using(std::proofs::lemmas::Result::err_from_is_err_and, crate::proofs::Answering::ready_to_carry, crate::proofs::Answering::repeat_early))]
 pub fn repeat(
     page: &[u8],
     record: &[u8],
     request: &[u8],
     answer: &mut [u8],
     form: Form,
-) -> PerformAnswer
+) -> Result<u32, Refusal>
     ensures { told result page.now answer.new ≡ repeated (design (form_of form)) page.now «record».now request.now answer.old }
 {
-    match test_offer(page.len(), answer.len(), record, request, form) {
-        Offer::Refused(r) => PerformAnswer::Refused(r),
-        Offer::Formed(q) => {
-            let key = prepared(page);
-            if !valid(&key.inner, &key.outer, record, form) {
-                return PerformAnswer::Refused(Refusal::Authenticator);
-            }
-            if !leads_to(page, record, request, form) {
-                return PerformAnswer::Refused(Refusal::Current);
-            }
-            match judge_record(record, q, form) {
-                Ruling::Barred(r) => PerformAnswer::Refused(r),
-                Ruling::Free => {
-                    let stored = write_repeated(
-                        page, record, q, answer, &key.inner, &key.outer, form,
-                    );
-                    PerformAnswer::Done { stored }
-                }
-            }
-        }
+    let (held, offer) = test_offer(page, answer.len(), record, request, form)?;
+    let key = prepared(&held);
+    if !valid(&key, &offer.record) {
+        return Err(Refusal::Authenticator);
     }
+    if !leads_to(&held, &offer) {
+        return Err(Refusal::Current);
+    }
+    judge_offer(&offer)?;
+    Ok(write_repeated(&held, &offer, answer, &key))
 }
 
 // Test 8 of repeat: whether the record's summary, moved on by the request, is the page's.
-fn leads_to(page: &[u8], record: &[u8], request: &[u8], form: Form) -> bool
-    requires page_len { length page.now ≡ page_size }
-    requires record_len { length «record».now ≡ record_size (form_of form) }
-    requires request_len { length request.now ≡ request_size }
-    ensures { result ≡ same (moved_on (form_of form) «record».now request.now) (page_summary page.now) }
+#[tactic(auto, using(bindings::proofs::Seals::lengths))]
+fn leads_to(page: &Page<'_>, offer: &Offer<'_>) -> bool
+    ensures { result ≡ same (moved_on (form_of offer.now.«record».form) offer.now.«record».bytes.now offer.now.request.now) (page_summary page.now.bytes.now) }
 {
-    let own = summary_part(record, form);
-    let hash = next_summary(own, request);
+    let own = offer.record.summary();
+    let hash = next_summary(own, offer.request);
     let next: &[u8] = &hash;
-    let held = page_summary(page);
+    let held = page.summary();
     same(next, held)
 }
 
 // The writing, past all tests: the next record is laid in the answer with the page's summary, and sealed there.
-fn write_repeated<'a>(
-    page: &[u8],
-    record: &[u8],
-    q: Request,
-    answer: &mut [u8],
-    inner: &'a [u32; 8],
-    outer: &'a [u32; 8],
-    form: Form,
-) -> u32
-    requires page_len { length page.now ≡ page_size }
-    requires form_in_bounds { record_size (form_of form) ≤ length answer.old }
-    requires record_len { length «record».now ≡ record_size (form_of form) }
-    requires ready { Ready (state_bytes (form_of form) «record».now) q }
-    ensures answer_after { answer.new ≡ over 0 (next_record (form_of form) (halves inner.now outer.now) «record».now q (page_summary page.now)) answer.old }
-    ensures value { result ≡ next_stored (form_of form) «record».now q }
+#[tactic(auto, using(bindings::proofs::Seals::lengths, crate::proofs::Writing::writing))]
+fn write_repeated(page: &Page<'_>, offer: &Offer<'_>, answer: &mut [u8], key: &Prepared) -> u32
+    requires room { record_size (form_of offer.now.«record».form) ≤ length answer.old }
+    requires ready { Ready (state_bytes (form_of offer.now.«record».form) offer.now.«record».bytes.now) offer.now.asks }
+    ensures answer_after { answer.new ≡ over 0 (next_record (form_of offer.now.«record».form) key.now offer.now.«record».bytes.now offer.now.asks (page_summary page.now.bytes.now)) answer.old }
+    ensures value { result ≡ next_stored (form_of offer.now.«record».form) offer.now.«record».bytes.now offer.now.asks }
 {
-    lay_state(answer, record, page_summary(page), form);
-    let stored = carry(answer, q, form);
-    seal(answer, inner, outer, form);
+    let form = offer.record.form;
+    lay_state(answer, &offer.record, page.summary());
+    let stored = carry(answer, offer.asks, form);
+    seal(answer, key, form);
     stored
 }

@@ -7,12 +7,12 @@ use Prim.Native.Nat.{ℕ, ◌≤◌}
 use native.Mathlib.Omega.{arith}
 use mathlib.Core.List.{List, [], ◌∷◌, ◌++◌, Memᴰ}
 use lib.ListN.{length, length-append}
+use Rattle.std.specs.Prelude.{Ok, Err}
 use Rattle.numbers.specs.Parts.{over}
 use Rattle.numbers.specs.Comparing.{same}
 use Rattle.numbers.proofs.Comparison.{same_iff}
 use Rattle.numbers.proofs.Parts.{part-over}
-use Rattle.records.specs.declared.Tested.{Tested}
-use Rattle.records.specs.declared.Tested.TheVariants.{Passed, Refused}
+use Rattle.refusals.specs.Tested.{Tested}
 use Rattle.bindings.specs.Hashed.{summary_message}
 use Rattle.answers.specs.Design.{Design, Served}
 use Rattle.answers.specs.Hashing.{next_summary, binding_of, binding_in, valid}
@@ -35,7 +35,7 @@ use Rattle.histories.proofs.Moments.{stands_at, needed_at}
 
 -- ---- the two retries
 
-judged_good : {t : Tested} {valid current : Bool} {s : Served} (state : List ℕ) → t ≡ Passed → valid ≡ true → current ≡ true → s ≡ Served.carried state
+judged_good : {t : Tested} {valid current : Bool} {s : Served} (state : List ℕ) → t ≡ Ok tt → valid ≡ true → current ≡ true → s ≡ Served.carried state
     → judged t valid current (by_service s) ≡ good state
 judged_good state tests seven eight serves = rw (tests, seven, eight, serves) refl
 
@@ -54,7 +54,7 @@ module _ (D : Design) (laws : Laws D) (page l request answer state room : List �
   offering = offer D page l request answer past.tests
 
   -- tests 1 to 6 with another buffer that has room, on another page of the right size
-  again : (now : List ℕ) → D.right_page now ≡ true → offered D now l request room ≡ Passed
+  again : (now : List ℕ) → D.right_page now ≡ true → offered D now l request room ≡ Ok tt
   again now right = offered-passes D now l request room (record { right = right; room = fits; tests = offering.tests; formed = offering.formed })
 
   serves : D.served (D.state_bytes l) request ≡ Served.carried state
@@ -136,8 +136,8 @@ module _ (D : Design) (fresh : List ℕ) (older : Run) where
 -- ---- calls other than perform move nothing
 
 open_unmoved : (D : Design) (page : List ℕ) (t : Tested) → (open_did D page t).moved ≡ []
-open_unmoved D page (Refused r) = refl
-open_unmoved D page Passed = refl
+open_unmoved D page (Err r) = refl
+open_unmoved D page (Ok x) = refl
 
 repeat_unmoved : (D : Design) (page l request : List ℕ) (v : Verdict) → (repeat_did D page l request v).moved ≡ []
 repeat_unmoved D page l request (early r) = refl

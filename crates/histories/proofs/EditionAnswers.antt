@@ -4,9 +4,9 @@ use mathlib.Core.Path.{◌≡◌, refl}
 use Prim.Native.Nat.{ℕ}
 use native.Mathlib.Omega.{arith}
 use mathlib.Core.List.{List, [], ◌∷◌}
+use Rattle.std.specs.Prelude.{Ok, Err}
+use Rattle.refusals.specs.Tested.{Tested}
 use Rattle.records.specs.Form.{Form}
-use Rattle.records.specs.declared.Tested.{Tested}
-use Rattle.records.specs.declared.Tested.TheVariants.{Passed, Refused}
 use Rattle.answers.specs.Design.{Design, Served}
 use Rattle.answers.specs.Hashing.{next_summary, binding_of, binding_in}
 use Rattle.answers.specs.Judging.{Verdict, early, forged, stale, barred, good, perform_verdict, repeat_verdict}
@@ -34,10 +34,10 @@ answered-bound D l request answer state p serves a =
 
 -- what counts, by the tests of open and by the verdict of perform and repeat, if the accepted call's record has the binding that counts
 module _ (D : Design) (page : List ℕ) where
-  open_counted : (after answer bound : List ℕ) (t : Tested) → (t ≡ Passed → (open_did D after Passed).answered ≡ bound ∷ [])
+  open_counted : (after answer bound : List ℕ) (t : Tested) → (t ≡ Ok tt → (open_did D after (Ok tt)).answered ≡ bound ∷ [])
       → WhereAccepted (opened_by D page answer t).number bound (open_did D after t).answered
-  open_counted after answer bound Passed is = record { accepted = λ zero. is refl; refused = λ other. absurd (other refl) }
-  open_counted after answer bound (Refused r) is = record { accepted = λ zero. absurd (omega (arith, some_number r)); refused = λ other. refl }
+  open_counted after answer bound (Ok x) is = record { accepted = λ zero. is refl; refused = λ other. absurd (other refl) }
+  open_counted after answer bound (Err r) is = record { accepted = λ zero. absurd (omega (arith, some_number r)); refused = λ other. refl }
 
   perform_counted : (left l request answer after bound : List ℕ) (v : Verdict)
       → ((state : List ℕ) → v ≡ good state → binding_of D (next_summary D (D.summary l) request) state ∷ [] ≡ bound ∷ [])

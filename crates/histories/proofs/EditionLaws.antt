@@ -14,14 +14,13 @@ use Rattle.numbers.proofs.Parts.{length_part}
 use Rattle.refusals.specs.declared.Refusal.{Refusal}
 use Rattle.refusals.specs.declared.Refusal.TheVariants.{Record, Version, State, Authenticator, Current, Capacity, Stored, Limit}
 use Rattle.refusals.specs.Numbers.{number_of}
+use Rattle.refusals.specs.Tested.{Tested}
 use Rattle.racks.specs.Layout.{state_of}
 use Rattle.requests.specs.Formed.{well_formed}
 use Rattle.requests.specs.Requests.{request_of, read_request}
-use Rattle.rules.specs.declared.Ruling.TheVariants.{Free, Barred}
 use Rattle.rules.specs.Rules.{over_capacity, over_stored, over_limit, ruling, carry_out}
 use Rattle.rules.specs.Replay.{by_ruling, book}
 use Rattle.records.specs.Form.{Form}
-use Rattle.records.specs.declared.Tested.TheVariants.{Passed, Refused}
 use Rattle.records.specs.Page.{hash_size, page_size, page_summary, page_key}
 use Rattle.records.specs.Record.{state_size, state_bytes, summary, right_size, right_version, right_state}
 use Rattle.records.specs.Tests.{tested}
@@ -37,17 +36,14 @@ use Rattle.answers.proofs.ReadsBack.{length_next}
 use Rattle.answers.proofs.States.{record_good, served_good}
 use Rattle.histories.specs.Laws.{Laws}
 use Rattle.histories.specs.Ties.{NumberLaws}
+use Rattle.std.specs.Prelude.{Ok, Err}
+use Rattle.records.proofs.TestCases.{tests_passed}
 
 -- ---- a record that passes its tests has a summary of 32 bytes
 
-first_test : (size version state : Bool) → cond size (cond version (cond state Passed (Refused State)) (Refused Version)) (Refused Record) ≡ Passed → size ≡ true
-first_test true version state e = refl
-first_test false version state e = let z : ◌≡◌ {A = ℕ} 0 1 = cc in absurd (omega arith)
-
-pub summary_is_32 : (f : Form) (l : List ℕ) → tested f l ≡ Passed → length (summary f l) ≡ hash_size
-unfolding tested
+pub summary_is_32 : (f : Form) (l : List ℕ) → tested f l ≡ Ok tt → length (summary f l) ≡ hash_size
 summary_is_32 f l e =
-    let long = right_length f l (first_test (right_size f l) (right_version f l) (right_state f l) e) in
+    let long = right_length f l (tests_passed f l e).0 in
     length_part (2 + 1 + state_size f) hash_size l (omega arith)
 
 -- ---- a page with another summary
@@ -81,7 +77,7 @@ laws f =
 
 -- ---- the numbers of refusals
 
-early_number : (size version state : Bool) (r : Refusal) → cond size (cond version (cond state Passed (Refused State)) (Refused Version)) (Refused Record) ≡ Refused r
+early_number : (size version state : Bool) (r : Refusal) → ◌≡◌ {A = Tested} (cond size (cond version (cond state (Ok tt) (Err State)) (Err Version)) (Err Record)) (Err r)
     → number_of r < number_of Authenticator
 early_number true true true r e = let z : ◌≡◌ {A = ℕ} 0 1 = cc in absurd (omega arith)
 early_number true true false r e = let is : State ≡ r = cc in rw (sym is) (omega arith)
@@ -89,14 +85,14 @@ early_number true false state r e = let is : Version ≡ r = cc in rw (sym is) (
 early_number false version state r e = let is : Record ≡ r = cc in rw (sym is) (omega arith)
 
 behind_number : (capacity stored limit : Bool) (state : _) (r : Refusal)
-    → in_bytes (by_ruling (cond capacity (Barred Capacity) (cond stored (Barred Stored) (cond limit (Barred Limit) Free))) state) ≡ Served.barred r
+    → in_bytes (by_ruling (cond capacity (Err Capacity) (cond stored (Err Stored) (cond limit (Err Limit) (Ok tt)))) state) ≡ Served.barred r
     → number_of Current < number_of r
 behind_number true stored limit state r e = let is : Capacity ≡ r = cc in rw (sym is) (omega arith)
 behind_number false true limit state r e = let is : Stored ≡ r = cc in rw (sym is) (omega arith)
 behind_number false false true state r e = let is : Limit ≡ r = cc in rw (sym is) (omega arith)
 behind_number false false false state r e = let z : ◌≡◌ {A = ℕ} 0 1 = cc in absurd (omega arith)
 
-pub early_numbers : (f : Form) (l : List ℕ) (r : Refusal) → tested f l ≡ Refused r → number_of r < number_of Authenticator
+pub early_numbers : (f : Form) (l : List ℕ) (r : Refusal) → tested f l ≡ Err r → number_of r < number_of Authenticator
 unfolding tested
 early_numbers f l r e = early_number (right_size f l) (right_version f l) (right_state f l) r e
 

@@ -7,7 +7,7 @@ use mathlib.Core.Logic.{⊎_elim}
 use Prim.Native.Nat.{ℕ}
 use mathlib.Core.List.Memᴰ
 use mathlib.Core.List.{List, [], ◌∷◌, ◌++◌, Memᴰ}
-use Rattle.records.specs.declared.Tested.TheVariants.{Passed}
+use Rattle.std.specs.Prelude.{Ok}
 use Rattle.bindings.specs.Hashed.{summary_message}
 use Rattle.answers.specs.Design.{Design, Served}
 use Rattle.answers.specs.Hashing.{next_summary, bound_message, binding_of, binding_in}
@@ -78,7 +78,7 @@ pub record Rests (D : Design) (messages : List (List ℕ)) (summary state : List
 
 module _ (D : Design) (laws : Laws D) (messages : List (List ℕ)) (clear : Apart D messages) where
   -- those of a record whose binding was answered
-  pub rests_on : (bindings : List (List ℕ)) → Tree D messages bindings → (l : List ℕ) → D.tested l ≡ Passed
+  pub rests_on : (bindings : List (List ℕ)) → Tree D messages bindings → (l : List ℕ) → D.tested l ≡ Ok tt
       → Memᴰ (binding_in D l) bindings → Within (record_messages D l) messages → Rests D messages (D.summary l) (D.state_bytes l)
   rests_on bindings tree l tests answered hashed =
       let t = tree (binding_in D l) answered in

@@ -7,8 +7,8 @@ use mathlib.Core.Logic.{⊎_elim}
 use Prim.Native.Nat.{ℕ}
 use mathlib.Core.List.Memᴰ
 use mathlib.Core.List.{List, [], ◌∷◌, ◌++◌, Memᴰ}
-use Rattle.records.specs.declared.Tested.{Tested}
-use Rattle.records.specs.declared.Tested.TheVariants.{Passed, Refused}
+use Rattle.std.specs.Prelude.{Ok, Err}
+use Rattle.refusals.specs.Tested.{Tested}
 use Rattle.answers.specs.Design.{Design, Served}
 use Rattle.answers.specs.Hashing.{next_summary, bound_message, binding_of}
 use Rattle.answers.specs.Rows.{summary_along, messages_along, served_along, Origin, origin_summary, origin_state}
@@ -24,7 +24,7 @@ use Rattle.histories.proofs.Verdicts.{past, Fits, perform_fits, repeat_tests, vi
 
 -- a record that was relied on
 pub record Based (D : Design) (d : Did) (l : List ℕ) : Type 0 where
-  pub tests : D.tested l ≡ Passed
+  pub tests : D.tested l ≡ Ok tt
   pub relies : Memᴰ l d.relied
   pub needs : Within (record_messages D l) d.needed
 
@@ -108,7 +108,7 @@ module _ (D : Design) (page : List ℕ) where
   taking_none : (d : Did) → d.taken ≡ [] → d.answered ≡ [] → d.moved ≡ [] → d.page ≡ page → Still D page d
   taking_none d taken answered moved is = record { takens = λ l m. none (rw taken at m); silent = answered; unmoved = moved; left = is }
 
-  relied_based : (after l : List ℕ) → D.tested l ≡ Passed → Based D (relies D after l) l
+  relied_based : (after l : List ℕ) → D.tested l ≡ Ok tt → Based D (relies D after l) l
   relied_based after l tests = record { tests = tests; relies = Memᴰ.head refl; needs = λ x m. m }
 
   takes_taken : (after k : List ℕ) → Fits D page k → (l : List ℕ) → Memᴰ l (takes D after k).taken → Taken D page (takes D after k) l
@@ -153,8 +153,8 @@ module _ (D : Design) (page : List ℕ) where
   -- ---- the calls
 
   open_deed : (answer : List ℕ) (t : Tested) (after : List ℕ) → after ≡ (opened_by D page answer t).page → Deed D page (open_did D after t)
-  open_deed answer (Refused r) after is = still_deed (nothing after) (taking_none (nothing after) refl refl refl is)
-  open_deed answer Passed after is =
+  open_deed answer (Err r) after is = still_deed (nothing after) (taking_none (nothing after) refl refl refl is)
+  open_deed answer (Ok x) after is =
       answer_deed (nothing after) after [] Origin.start [] D.first_bytes (λ l m. none m) refl tt refl (stays is refl)
 
   perform_deed : (l request answer : List ℕ) (v : Verdict) (after : List ℕ)
@@ -173,7 +173,7 @@ module _ (D : Design) (page : List ℕ) where
       (led_both a after (request ∷ []) (Origin.from l) (request ∷ []) state t.based served) is refl)
 
   repeat_deed : (l request answer : List ℕ) (v : Verdict) (after : List ℕ) → after ≡ (answered_by D page l request answer page v).page
-      → (past v ≡ true → D.tested l ≡ Passed)
+      → (past v ≡ true → D.tested l ≡ Ok tt)
       → ((state : List ℕ) → v ≡ good state → D.served (D.state_bytes l) request ≡ Served.carried state) → Deed D page (repeat_did D after l request v)
   repeat_deed l request answer (early r) after is tests serves = still_deed (nothing after) (taking_none (nothing after) refl refl refl is)
   repeat_deed l request answer forged after is tests serves = still_deed (tries D after l) (taking_none (tries D after l) refl refl refl is)

@@ -5,8 +5,8 @@ use mathlib.Core.Logic.{⊎_elim}
 use Prim.Native.Nat.{ℕ}
 use mathlib.Core.List.Memᴰ
 use mathlib.Core.List.{List, [], ◌∷◌, ◌++◌}
-use Rattle.records.specs.declared.Tested.{Tested}
-use Rattle.records.specs.declared.Tested.TheVariants.{Passed, Refused}
+use Rattle.std.specs.Prelude.{Ok, Err}
+use Rattle.refusals.specs.Tested.{Tested}
 use Rattle.answers.specs.Design.{Design}
 use Rattle.answers.specs.Judging.{Verdict, early, forged, stale, barred, good, perform_verdict, repeat_verdict, view_verdict, resume_verdict}
 use Rattle.answers.specs.Answers.{open_tests}
@@ -43,8 +43,8 @@ less_none : (d : Did) → d.needed ≡ [] → d.relied ≡ [] → Less d
 less_none d a b = record { messages = λ x m. absurd (Memᴰ.not-nil (rw a at m)); findings = λ x m. absurd (Memᴰ.not-nil (rw b at m)) }
 
 less_open : (D : Design) (page : List ℕ) (t : Tested) → Less (open_did D page t)
-less_open D page Passed = less_all (open_did D page Passed) refl refl
-less_open D page (Refused r) = less_all (open_did D page (Refused r)) refl refl
+less_open D page (Ok x) = less_all (open_did D page (Ok tt)) refl refl
+less_open D page (Err r) = less_all (open_did D page (Err r)) refl refl
 
 less_perform : (D : Design) (page l request : List ℕ) (v : Verdict) → Less (perform_did D page l request v)
 less_perform D page l request (early r) = less_none (perform_did D page l request (early r)) refl refl

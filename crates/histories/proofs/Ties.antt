@@ -7,12 +7,12 @@ use native.Mathlib.Omega.{arith}
 use mathlib.Core.List.{List, [], ◌∷◌}
 use lib.ListN.{length}
 use lib.Dec.{leb, ltb}
+use Rattle.std.specs.Prelude.{Ok, Err}
 use Rattle.numbers.specs.Comparing.{same}
 use Rattle.refusals.specs.declared.Refusal.{Refusal}
 use Rattle.refusals.specs.declared.Refusal.TheVariants.{Page, Answer, Request, Authenticator, Current, Total}
 use Rattle.refusals.specs.Numbers.{number_of}
-use Rattle.records.specs.declared.Tested.{Tested}
-use Rattle.records.specs.declared.Tested.TheVariants.{Passed, Refused}
+use Rattle.refusals.specs.Tested.{Tested}
 use Rattle.answers.specs.Design.{Design, Served}
 use Rattle.answers.specs.Hashing.{next_summary, valid}
 use Rattle.answers.specs.Judging.{unless, and_then, Verdict, early, forged, stale, barred, good, judged, by_service, number, offered, looked, shown, perform_verdict, repeat_verdict, view_verdict, resume_verdict}
@@ -26,29 +26,29 @@ use Rattle.histories.proofs.Verdicts.{some_number}
 
 -- the tests before 7 have the numbers before 7
 abbrev Low : Tested → Type 0
-Low t = (r : Refusal) → t ≡ Refused r → number_of r < number_of Authenticator
+Low t = (r : Refusal) → t ≡ Err r → number_of r < number_of Authenticator
 
 low_unless : (b : Bool) (x : Refusal) → number_of x < number_of Authenticator → Low (unless b x)
 low_unless true x low r e = let z : ◌≡◌ {A = ℕ} 0 1 = cc in absurd (omega arith)
 low_unless false x low r e = let is : x ≡ r = cc in rw is at low
 
 low_then : (a b : Tested) → Low a → Low b → Low (and_then a b)
-low_then (Refused x) b p q = p
-low_then Passed b p q = q
+low_then (Err x) b p q = p
+low_then (Ok x) b p q = q
 
 -- a verdict whose numbers stand so
 record Ordered (v : Verdict) : Type 0 where
   early : (r : Refusal) → v ≡ early r → number_of r < number_of Authenticator
   behind : (r : Refusal) → v ≡ barred r → number_of Current < number_of r
 
-ordered : (t : Tested) (valid current : Bool) (next : Verdict) → Low t → (t ≡ Passed → Ordered next) → Ordered (judged t valid current next)
-ordered (Refused x) v c next low high =
+ordered : (t : Tested) (valid current : Bool) (next : Verdict) → Low t → (t ≡ Ok tt → Ordered next) → Ordered (judged t valid current next)
+ordered (Err x) v c next low high =
     record { early = λ r e. let is : x ≡ r = cc in low r (rw is refl); behind = λ r e. let z : ◌≡◌ {A = ℕ} 0 1 = cc in absurd (omega arith) }
-ordered Passed false c next low high =
+ordered (Ok x) false c next low high =
     record { early = λ r e. let z : ◌≡◌ {A = ℕ} 0 1 = cc in absurd (omega arith); behind = λ r e. let z : ◌≡◌ {A = ℕ} 0 1 = cc in absurd (omega arith) }
-ordered Passed true false next low high =
+ordered (Ok x) true false next low high =
     record { early = λ r e. let z : ◌≡◌ {A = ℕ} 0 1 = cc in absurd (omega arith); behind = λ r e. let z : ◌≡◌ {A = ℕ} 0 1 = cc in absurd (omega arith) }
-ordered Passed true true next low high = high refl
+ordered (Ok x) true true next low high = high refl
 
 -- past test 8
 ordered_good : (state : List ℕ) → Ordered (good state)
@@ -150,10 +150,10 @@ taken_if false l = []
 
 looked_if : (D : Design) (page l : List ℕ) (t : Tested) (valid current : Bool) (state : List ℕ)
     → (look_did D page l (judged t valid current (good state))).taken ≡ taken_if (is_good (judged t valid current (good state))) l
-looked_if D page l (Refused r) v c state = refl
-looked_if D page l Passed false c state = refl
-looked_if D page l Passed true false state = refl
-looked_if D page l Passed true true state = refl
+looked_if D page l (Err r) v c state = refl
+looked_if D page l (Ok x) false c state = refl
+looked_if D page l (Ok x) true false state = refl
+looked_if D page l (Ok x) true true state = refl
 
 from-disk : (in_ram on_disk : List ℕ) (disks : Bool) → taken_if disks on_disk ≡ handed_back (resumed_by false disks) in_ram on_disk
 from-disk in_ram on_disk true = refl
@@ -163,10 +163,10 @@ resumed_is : (D : Design) (page in_ram on_disk : List ℕ) (t : Tested) (valid c
     → disk.taken ≡ taken_if disks on_disk
     → (resume_did (judged t valid current (good state)) (look_did D page in_ram (judged t valid current (good state))) disk).taken
     ≡ handed_back (resumed_by (is_good (judged t valid current (good state))) disks) in_ram on_disk
-resumed_is D page in_ram on_disk (Refused r) v c state disk disks is = is ∙ from-disk in_ram on_disk disks
-resumed_is D page in_ram on_disk Passed false c state disk disks is = is ∙ from-disk in_ram on_disk disks
-resumed_is D page in_ram on_disk Passed true false state disk disks is = is ∙ from-disk in_ram on_disk disks
-resumed_is D page in_ram on_disk Passed true true state disk disks is = refl
+resumed_is D page in_ram on_disk (Err r) v c state disk disks is = is ∙ from-disk in_ram on_disk disks
+resumed_is D page in_ram on_disk (Ok x) false c state disk disks is = is ∙ from-disk in_ram on_disk disks
+resumed_is D page in_ram on_disk (Ok x) true false state disk disks is = is ∙ from-disk in_ram on_disk disks
+resumed_is D page in_ram on_disk (Ok x) true true state disk disks is = refl
 
 module _ (D : Design) (laws : NumberLaws D) (page : List ℕ) where
   low_offered : (l request answer : List ℕ) → Low (offered D page l request answer)
@@ -180,7 +180,7 @@ module _ (D : Design) (laws : NumberLaws D) (page : List ℕ) where
   high_served (Served.carried state) high = ordered_good state
   high_served (Served.barred r) high = ordered_barred r (high r refl)
 
-  high_offered : (l request answer : List ℕ) → offered D page l request answer ≡ Passed → Ordered (by_service (D.served (D.state_bytes l) request))
+  high_offered : (l request answer : List ℕ) → offered D page l request answer ≡ Ok tt → Ordered (by_service (D.served (D.state_bytes l) request))
   high_offered l request answer passed =
       high_served (D.served (D.state_bytes l) request) (λ r e. laws.behind (D.state_bytes l) request r (offer D page l request answer passed).formed e)
 

@@ -6,13 +6,13 @@ use Prim.Native.Nat.{ℕ, ◌^◌, ◌<◌}
 use native.Mathlib.Omega.{arith}
 use mathlib.Core.List.{List}
 use lib.Dec.{ltb}
+use Rattle.std.specs.Prelude.{Ok, Err}
 use Rattle.numbers.specs.Comparing.{same}
 use Rattle.numbers.proofs.Comparison.{same_iff}
 use Rattle.refusals.specs.declared.Refusal.{Refusal}
 use Rattle.refusals.specs.declared.Refusal.TheVariants.{Page, Answer, Record, Version, State, Request, Authenticator, Current, Capacity, Stored, Limit, Total, Fresh}
 use Rattle.refusals.specs.Numbers.{number_of}
-use Rattle.records.specs.declared.Tested.{Tested}
-use Rattle.records.specs.declared.Tested.TheVariants.{Passed, Refused}
+use Rattle.refusals.specs.Tested.{Tested}
 use Rattle.answers.specs.Design.{Design, Served}
 use Rattle.answers.specs.Hashing.{next_summary, valid}
 use Rattle.answers.specs.Judging.{unless, and_then, Verdict, early, forged, stale, barred, good, judged, by_service, offered, looked, shown, perform_verdict, repeat_verdict, view_verdict, resume_verdict}
@@ -22,9 +22,9 @@ use Rattle.answers.proofs.Tests.{offer}
 -- ---- tests
 
 -- both of two tests passed
-both : (a b : Tested) → and_then a b ≡ Passed → (a ≡ Passed) × (b ≡ Passed)
-both Passed b e = (refl, e)
-both (Refused r) b e = let z : ◌≡◌ {A = ℕ} 0 1 = cc in absurd (omega arith)
+both : (a b : Tested) → and_then a b ≡ Ok tt → (a ≡ Ok tt) × (b ≡ Ok tt)
+both (Ok x) b e = (refl, e)
+both (Err r) b e = let z : ◌≡◌ {A = ℕ} 0 1 = cc in absurd (omega arith)
 
 -- ---- verdicts
 
@@ -38,22 +38,22 @@ past (good state) = true
 
 -- the tests before 7, test 7 and test 8 passed
 pub record Past (t : Tested) (valid current : Bool) : Type 0 where
-  pub tests : t ≡ Passed
+  pub tests : t ≡ Ok tt
   pub seven : valid ≡ true
   pub eight : current ≡ true
 
 past_judged : (t : Tested) (valid current : Bool) (next : Verdict) → past (judged t valid current next) ≡ true → Past t valid current
-past_judged (Refused r) v c s e = absurd (false≢true e)
-past_judged Passed false c s e = absurd (false≢true e)
-past_judged Passed true false s e = absurd (false≢true e)
-past_judged Passed true true s e = record { tests = refl; seven = refl; eight = refl }
+past_judged (Err r) v c s e = absurd (false≢true e)
+past_judged (Ok x) false c s e = absurd (false≢true e)
+past_judged (Ok x) true false s e = absurd (false≢true e)
+past_judged (Ok x) true true s e = record { tests = refl; seven = refl; eight = refl }
 
 -- a good verdict is that past test 8, and has the state that the service gives
 good_judged : (t : Tested) (valid current : Bool) (next : Verdict) (state : List ℕ) → judged t valid current next ≡ good state → next ≡ good state
-good_judged (Refused r) v c next state e = let z : ◌≡◌ {A = ℕ} 0 1 = cc in absurd (omega arith)
-good_judged Passed false c next state e = let z : ◌≡◌ {A = ℕ} 0 1 = cc in absurd (omega arith)
-good_judged Passed true false next state e = let z : ◌≡◌ {A = ℕ} 0 1 = cc in absurd (omega arith)
-good_judged Passed true true next state e = e
+good_judged (Err r) v c next state e = let z : ◌≡◌ {A = ℕ} 0 1 = cc in absurd (omega arith)
+good_judged (Ok x) false c next state e = let z : ◌≡◌ {A = ℕ} 0 1 = cc in absurd (omega arith)
+good_judged (Ok x) true false next state e = let z : ◌≡◌ {A = ℕ} 0 1 = cc in absurd (omega arith)
+good_judged (Ok x) true true next state e = e
 
 good_service : (s : Served) (state : List ℕ) → by_service s ≡ good state → s ≡ Served.carried state
 good_service (Served.carried x) state e = cc
@@ -68,7 +68,7 @@ differ a b h = by_test (same a b) refl
     by_test false e = e
 
 -- a record past test 7 that is not current is stale
-pub judged-stale : {t : Tested} {valid current : Bool} (next : Verdict) → t ≡ Passed → valid ≡ true → current ≡ false → judged t valid current next ≡ stale
+pub judged-stale : {t : Tested} {valid current : Bool} (next : Verdict) → t ≡ Ok tt → valid ≡ true → current ≡ false → judged t valid current next ≡ stale
 judged-stale next tests seven eight = rw (tests, seven, eight) refl
 
 -- a good verdict is past test 8
@@ -86,7 +86,7 @@ good_past (good state) e = refl
 
 -- a record that passed the tests 3, 4 and 5, and has the page's summary
 pub record Fits (D : Design) (page l : List ℕ) : Type 0 where
-  pub tests : D.tested l ≡ Passed
+  pub tests : D.tested l ≡ Ok tt
   pub current : D.summary l ≡ D.page_summary page
 
 pub perform_past : (D : Design) (page l request answer : List ℕ) → past (perform_verdict D page l request answer) ≡ true
@@ -99,7 +99,7 @@ perform_fits D page l request answer e =
     let p = perform_past D page l request answer e in
     record { tests = (offer D page l request answer p.tests).tests; current = (same_iff _ _).0 p.eight }
 
-pub repeat_tests : (D : Design) (page l request answer : List ℕ) → past (repeat_verdict D page l request answer) ≡ true → D.tested l ≡ Passed
+pub repeat_tests : (D : Design) (page l request answer : List ℕ) → past (repeat_verdict D page l request answer) ≡ true → D.tested l ≡ Ok tt
 unfolding repeat_verdict
 repeat_tests D page l request answer e =
     let p : Past (offered D page l request answer) (valid D page l) (same (next_summary D (D.summary l) request) (D.page_summary page)) =

@@ -1,8 +1,7 @@
 -- What a call did, beside its number and its answer buffer: one record, from the verdict that the tests give. A new call is one clause
 -- of `did`. Assumes nothing.
-use Rattle.std.specs.Prelude.{ℕ, List, [], ◌∷◌, ◌++◌}
-use Rattle.records.specs.declared.Tested.{Tested}
-use Rattle.records.specs.declared.Tested.TheVariants.{Passed, Refused}
+use Rattle.std.specs.Prelude.{ℕ, List, [], ◌∷◌, ◌++◌, Ok, Err}
+use Rattle.refusals.specs.Tested.{Tested}
 use Rattle.bindings.specs.Hashed.{summary_message}
 use Rattle.answers.specs.Design.{Design}
 use Rattle.answers.specs.Hashing.{bound_message, binding_of}
@@ -100,8 +99,8 @@ both a b =
 -- ---- the calls
 
 abbrev pub open_did : Design → List ℕ → Tested → Did
-open_did D page (Refused r) = nothing page
-open_did D page Passed = answers D page [] Origin.start [] D.first_bytes
+open_did D page (Err r) = nothing page
+open_did D page (Ok x) = answers D page [] Origin.start [] D.first_bytes
 
 abbrev pub perform_did : Design → List ℕ → List ℕ → List ℕ → Verdict → Did
 perform_did D page l request (early r) = nothing page

@@ -1,10 +1,9 @@
 -- What is proved of every run under the premises: the third condition, and the afternoon itself. Each is a statement about the definitions
 -- that the contracts of the calls cite. A run's older part is what went before a moment in it.
-use Rattle.std.specs.Prelude.{◌≡◌, true, ℕ, ◌<◌, ◌≤◌}
+use Rattle.std.specs.Prelude.{◌≡◌, true, ℕ, ◌<◌, ◌≤◌, Ok}
 use mathlib.Core.List.{List, ◌++◌, Memᴰ, reverse}
 use Rattle.refusals.specs.declared.Refusal.TheVariants.{Current}
 use Rattle.refusals.specs.Numbers.{number_of}
-use Rattle.records.specs.declared.Tested.TheVariants.{Passed}
 use Rattle.answers.specs.Design.{Design, Served}
 use Rattle.answers.specs.Hashing.{binding_in, valid}
 use Rattle.answers.specs.Judging.{offered, looked}
@@ -74,10 +73,10 @@ pub record UpToEight (number : ℕ) : Type 0 where
 -- perform changes nothing, the answer is 8 where the tests before 8 pass, and resume does not hand it back, from RAM or from disk
 pub record RefusedAsOld (D : Design) (page l : List ℕ) : Type 0 where
   pub perform : (request answer : List ℕ) → UpToEight (performed D page l request answer).number × Unchanged page answer (performed D page l request answer)
-  pub perform_eight : (request answer : List ℕ) → offered D page l request answer ≡ Passed → valid D page l ≡ true
+  pub perform_eight : (request answer : List ℕ) → offered D page l request answer ≡ Ok tt → valid D page l ≡ true
       → (performed D page l request answer).number ≡ number_of Current
   pub view : (rack : ℕ) → UpToEight (viewed D page l rack).number
-  pub view_eight : (rack : ℕ) → looked D page l rack ≡ Passed → valid D page l ≡ true → (viewed D page l rack).number ≡ number_of Current
+  pub view_eight : (rack : ℕ) → looked D page l rack ≡ Ok tt → valid D page l ≡ true → (viewed D page l rack).number ≡ number_of Current
   pub in_ram : (on_disk : List ℕ) → resumed D page l on_disk ≡ Resumed.ram → ⊥
   pub on_disk : (in_ram : List ℕ) → resumed D page in_ram l ≡ Resumed.disk → ⊥
 

@@ -1,10 +1,9 @@
 -- What `did` says of a call, held to what the call's contract says: to its number, and to the record at the front of its buffer. So a
 -- reader need not unfold a verdict. Assumes nothing.
-use Rattle.std.specs.Prelude.{◌≡◌, true, ℕ, ◌≤◌, ◌<◌, List, [], ◌∷◌}
+use Rattle.std.specs.Prelude.{◌≡◌, true, ℕ, ◌≤◌, ◌<◌, List, [], ◌∷◌, Err}
 use Rattle.refusals.specs.declared.Refusal.{Refusal}
 use Rattle.refusals.specs.declared.Refusal.TheVariants.{Authenticator, Current}
 use Rattle.refusals.specs.Numbers.{number_of}
-use Rattle.records.specs.declared.Tested.TheVariants.{Refused}
 use Rattle.answers.specs.Design.{Design, Served}
 use Rattle.answers.specs.Hashing.{binding_in}
 use Rattle.answers.specs.Answers.{opened, performed, repeated, viewed, Resumed, resumed}
@@ -46,7 +45,7 @@ pub record DidByNumber (D : Design) (page : List ℕ) : Type 0 where
 
 -- what this asks of a design: the tests of a record come before 7, and the charge rules behind 8
 pub record NumberLaws (D : Design) : Type 0 where
-  pub early : (l : List ℕ) (r : Refusal) → D.tested l ≡ Refused r → number_of r < number_of Authenticator
+  pub early : (l : List ℕ) (r : Refusal) → D.tested l ≡ Err r → number_of r < number_of Authenticator
   pub behind : (state request : List ℕ) (r : Refusal) → D.formed request ≡ true → D.served state request ≡ Served.barred r → number_of Current < number_of r
 
 -- ---- answered: an accepted call's binding that counts is that of the record at the front of its buffer

@@ -4,7 +4,7 @@ use mathlib.Core.Bool.{Bool, true, false, cond}
 use Prim.Native.Nat.{ℕ, ◌-◌, ◌≤◌, ◌<◌}
 use native.Mathlib.Omega.{arith}
 use mathlib.Core.List.{List, [], ◌++◌, append-nil}
-use lib.ListN.{length, replicate, length-append, length-replicate, length-map}
+use lib.ListN.{length, replicate, length-append, length-replicate}
 use lib.Dec.{eqb, ltb}
 use borrow.Author.Tests.{eqb-true, ne_eqb, le-ltb, lt-ltb}
 use native.Mathlib.Nat.{lt_of_not-le}
@@ -16,7 +16,7 @@ use Rattle.sha256.proofs.DigestLaws.{length-sha256}
 use Rattle.hmac.specs.declared.Prepared.{Prepared}
 use Rattle.hmac.specs.Hmac.{B, L, K₀, ipad, opad, ◌⊕◌, hmac}
 use Rattle.hmac.specs.Preparation.{after_block, halves, prepared_of, mac_of}
-use Rattle.hmac.proofs.Pads.{xor-repeated}
+use Rattle.hmac.proofs.Pads.{length-xor}
 
 -- ---- K₀
 
@@ -93,7 +93,7 @@ behind l m one = sha256_after_lem l m 1 one
 
 length-pad : (K : List ℕ) (p : ℕ) → length (K₀ K ⊕ replicate B p) ≡ B
 length-pad K p =
-    ap length (xor-repeated (K₀ K) B p (omega (arith, length-K₀ K))) ∙ length-map (K₀ K) _ ∙ length-K₀ K
+    length-xor (K₀ K) B p (omega (arith, length-K₀ K)) ∙ length-K₀ K
 
 pub mac_prepared : (K m : List ℕ) → mac_of (prepared_of K) m ≡ hmac K m
 unfolding mac_of prepared_of hmac

@@ -1,4 +1,3 @@
 -- What is proved of the faces, and that each promise leaves one outcome.
-pub mod Faces
 pub mod Answers
 pub mod Uniqueness

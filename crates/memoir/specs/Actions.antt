@@ -2,10 +2,9 @@
 -- is the page, the request offered is among the available inputs; disk, outputs and authenticators are any. After an accepted call the
 -- RAM is the record that was written, the NVRAM is the page then left, and the rack's new stored value is the output; after a refused
 -- one every variable is as it was. Assumes nothing.
-use Rattle.std.specs.Prelude.{◌≡◌, ℕ, List, [], ◌∷◌}
+use Rattle.std.specs.Prelude.{◌≡◌, ℕ, List, [], ◌∷◌, Ok}
 use Rattle.numbers.specs.Parts.{part}
 use Rattle.records.specs.Form.{Form}
-use Rattle.records.specs.declared.Tested.TheVariants.{Passed}
 use Rattle.records.specs.Page.{page_summary, page_key}
 use Rattle.records.specs.Record.{record_size, state_bytes, summary, authenticator}
 use Rattle.answers.specs.Design.{Served}
@@ -51,6 +50,6 @@ accepted f p v =
 
 -- a call that let tests 1 to 6 pass, on a request that the charge rules can carry out
 pub record Possible (f : Form) (page l request answer : List ℕ) : Type 0 where
-  pub passed : offered (design f) page l request answer ≡ Passed
+  pub passed : offered (design f) page l request answer ≡ Ok tt
   pub state : List ℕ
   pub carries : served_bytes f.racks (state_bytes f l) request ≡ Served.carried state

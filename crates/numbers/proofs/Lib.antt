@@ -9,4 +9,5 @@ pub mod Slots
 pub mod Lending
 pub mod Comparison
 mod Differences
+pub mod BigEndian
 pub mod Testing

@@ -5,10 +5,12 @@
 
 mod comparing;
 mod copying;
+mod number;
 mod reading;
 mod writing;
 
 pub use comparing::{all_zero, same};
 pub use copying::copy;
-pub use reading::{read16, read32, read64};
-pub use writing::{write32, write64};
+pub use number::Number;
+pub use reading::read;
+pub use writing::write;

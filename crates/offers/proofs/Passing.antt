@@ -1,53 +1,53 @@
 -- What is known once tests 1 to 6 have passed: of the record, of the request and of the rack. Assumes nothing.
 use mathlib.Core.Path.{◌≡◌, refl}
-use mathlib.Core.Bool.{Bool, true, false, cond}
+use mathlib.Core.Bool.{Bool, true, false}
 use Prim.Native.Nat.{ℕ}
 use native.Mathlib.Omega.{arith}
 use mathlib.Core.List.{List}
 use lib.ListN.{length}
 use lib.Dec.{eqb, leb}
 use borrow.Author.Tests.{eqb-true, leb-true, ltb-true}
+use Rattle.std.specs.Prelude.{Ok, Err}
 use Rattle.refusals.specs.declared.Refusal.{Refusal}
-use Rattle.refusals.specs.declared.Refusal.TheVariants.{Page, Answer, Request as RequestRefusal, Record, Version, State}
+use Rattle.refusals.specs.declared.Refusal.TheVariants.{Page, Answer, Request as RequestRefusal}
+use Rattle.refusals.specs.Tested.{Tested}
 use Rattle.racks.specs.Rule.{good_state}
 use Rattle.requests.specs.declared.Request.{Request}
-use Rattle.requests.specs.Layout.{request_size}
 use Rattle.requests.specs.Formed.{well_formed}
 use Rattle.requests.specs.Requests.{request_of, read_request}
-use Rattle.requests.specs.Range.{Named, InRange}
-use Rattle.requests.proofs.Formed.{read_formed, in_range, formed_form}
+use Rattle.requests.specs.Range.{InRange}
+use Rattle.requests.proofs.Formed.{in_range}
 use Rattle.records.specs.Form.{Form}
-use Rattle.records.specs.declared.Tested.{Tested}
-use Rattle.records.specs.declared.Tested.TheVariants.{Passed, Refused}
 use Rattle.records.specs.Page.{page_size}
-use Rattle.records.specs.Record.{record_size, state, right_size, right_version, right_state}
+use Rattle.records.specs.Record.{record_size, state}
 use Rattle.records.specs.Tests.{tested}
 use Rattle.records.proofs.Headers.{right_length}
+use Rattle.records.proofs.TestCases.{tests_passed}
+use Rattle.answers.proofs.States.{record_good}
 use Rattle.answers.specs.Judging.{unless, and_then}
-use Rattle.offers.specs.declared.Offer.TheVariants.{Formed as FormedOffer, Refused as RefusedOffer}
 use Rattle.offers.specs.Offers.{offered_at, looked_at, offer_by, PassedOffer, PassedLook}
 
 -- ---- an offer
 
-pub offer_passed : (t : Tested) (x q : Request) → offer_by t x ≡ FormedOffer q → (t ≡ Passed) × (x ≡ q)
-offer_passed Passed x q e = (refl, cc)
-offer_passed (Refused r) x q e = let z : ◌≡◌ {A = ℕ} 0 1 = cc in absurd (omega arith)
+pub offer_passed : (t : Tested) (x q : Request) → offer_by t x ≡ Ok q → (t ≡ Ok tt) × (x ≡ q)
+offer_passed (Ok u) x q e = (refl, cc)
+offer_passed (Err r) x q e = let z : ◌≡◌ {A = ℕ} 0 1 = cc in absurd (omega arith)
 
-pub offer_refused : (t : Tested) (x : Request) (r : Refusal) → offer_by t x ≡ RefusedOffer r → t ≡ Refused r
-offer_refused Passed x r e = let z : ◌≡◌ {A = ℕ} 0 1 = cc in absurd (omega arith)
-offer_refused (Refused s) x r e = cc
+pub offer_refused : (t : Tested) (x : Request) (r : Refusal) → offer_by t x ≡ Err r → t ≡ Err r
+offer_refused (Ok u) x r e = let z : ◌≡◌ {A = ℕ} 0 1 = cc in absurd (omega arith)
+offer_refused (Err s) x r e = cc
 
 -- ---- tests that have passed
 
-pub both : (s t : Tested) → and_then s t ≡ Passed → (s ≡ Passed) × (t ≡ Passed)
-both Passed t e = (refl, e)
-both (Refused r) t e = let z : ◌≡◌ {A = ℕ} 0 1 = cc in absurd (omega arith)
+pub both : (s t : Tested) → and_then s t ≡ Ok tt → (s ≡ Ok tt) × (t ≡ Ok tt)
+both (Ok x) t e = (refl, e)
+both (Err r) t e = let z : ◌≡◌ {A = ℕ} 0 1 = cc in absurd (omega arith)
 
-pub held : (b : Bool) (r : Refusal) → unless b r ≡ Passed → b ≡ true
+pub held : (b : Bool) (r : Refusal) → unless b r ≡ Ok tt → b ≡ true
 held true r e = refl
 held false r e = let z : ◌≡◌ {A = ℕ} 0 1 = cc in absurd (omega arith)
 
-pub offered : (f : Form) (page room : ℕ) (l request : List ℕ) (q : Request) → offered_at f page room l request ≡ Passed → request_of request ≡ q → PassedOffer f page room l request q
+pub offered : (f : Form) (page room : ℕ) (l request : List ℕ) (q : Request) → offered_at f page room l request ≡ Ok tt → request_of request ≡ q → PassedOffer f page room l request q
 unfolding read_request
 offered f page room l request q tests asks =
     let one = both (unless (eqb page page_size) Page) _ tests in
@@ -61,7 +61,7 @@ offered f page room l request q tests asks =
       read = rw (six, asks) refl;
     }
 
-pub looked : (f : Form) (page : ℕ) (l : List ℕ) (rack : ℕ) → looked_at f page l rack ≡ Passed → PassedLook f page l rack
+pub looked : (f : Form) (page : ℕ) (l : List ℕ) (rack : ℕ) → looked_at f page l rack ≡ Ok tt → PassedLook f page l rack
 looked f page l rack tests =
     let one = both (unless (eqb page page_size) Page) _ tests in
     let five = both (tested f l) _ one.1 in
@@ -73,42 +73,21 @@ looked f page l rack tests =
 
 -- ---- a record whose tests have passed
 
-all_three : (a b d : Bool) → cond a (cond b (cond d Passed (Refused State)) (Refused Version)) (Refused Record) ≡ Passed → (a ≡ true) × (d ≡ true)
-all_three true true true e = (refl, refl)
-all_three true true false e = let z : ◌≡◌ {A = ℕ} 0 1 = cc in absurd (omega arith)
-all_three true false d e = let z : ◌≡◌ {A = ℕ} 0 1 = cc in absurd (omega arith)
-all_three false b d e = let z : ◌≡◌ {A = ℕ} 0 1 = cc in absurd (omega arith)
-
-module _ (f : Form) (l : List ℕ) (passed : tested f l ≡ Passed) where
-  pub passed_length : length l ≡ record_size f
-  unfolding tested
-  passed_length = right_length f l (all_three (right_size f l) (right_version f l) (right_state f l) passed).0
-
-  pub passed_good : good_state (state f l) ≡ true
-  unfolding tested right_state
-  passed_good = (all_three (right_size f l) (right_version f l) (right_state f l) passed).1
+pub passed_length : (f : Form) (l : List ℕ) → tested f l ≡ Ok tt → length l ≡ record_size f
+passed_length f l passed = right_length f l (tests_passed f l passed).0
 
 -- ---- what follows for an offer, and for a look
 
 module _ (f : Form) (page room : ℕ) (l request : List ℕ) (q : Request) (o : PassedOffer f page room l request q) where
-  pub offered-length : length l ≡ record_size f
-  offered-length = passed_length f l o.passed
-
   pub offered_good : good_state (state f l) ≡ true
-  offered_good = passed_good f l o.passed
-
-  pub offered_request : length request ≡ request_size
-  offered_request = (formed_form f.racks request (read_formed f.racks request q o.read).0).size
+  offered_good = record_good f l o.passed
 
   pub offered-range : InRange f.racks q
   offered-range = in_range f.racks request q o.read
-
-  pub offered-named : Named f.racks q
-  offered-named = offered-range.named
 
 module _ (f : Form) (page : ℕ) (l : List ℕ) (rack : ℕ) (o : PassedLook f page l rack) where
   pub looked-length : length l ≡ record_size f
   looked-length = passed_length f l o.passed
 
   pub looked_good : good_state (state f l) ≡ true
-  looked_good = passed_good f l o.passed
+  looked_good = record_good f l o.passed

@@ -2,17 +2,10 @@
 // Records and requests are read where they lie, a record as one of a form that the caller says.
 #![tactic(auto)]
 
+mod offer;
 mod testing;
 mod validity;
 
-use refusals::Refusal;
-use requests::Request;
+pub use offer::Offer;
 pub use testing::{test_look, test_offer};
 pub use validity::{current, valid};
-
-// What the tests find: the request, or the first refusal.
-#[derive(Clone, Copy)]
-pub enum Offer {
-    Formed(Request),
-    Refused(Refusal),
-}

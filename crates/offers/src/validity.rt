@@ -1,32 +1,31 @@
 // Test 7, whether a record's authenticator is valid, and test 8 of perform, of view and of resume, whether it is current.
-ghost use Rattle.std.specs.Prelude.{◌≡◌, length};
+ghost use Rattle.std.specs.Prelude.{◌≡◌};
 ghost use Rattle.numbers.specs.Comparing.{same};
 ghost use Rattle.records.specs.Form.{form_of};
-ghost use Rattle.records.specs.Page.{page_size, page_summary};
-ghost use Rattle.records.specs.Record.{record_size, summary, authenticator};
-ghost use Rattle.hmac.specs.Preparation.{halves};
+ghost use Rattle.records.specs.Page.{page_summary};
+ghost use Rattle.records.specs.Record.{summary, authenticator};
 ghost use Rattle.bindings.specs.Sealing.{own_authenticator};
 
 use bindings::authenticator_of;
+use hmac::Prepared;
 use numbers::same;
-use records::{Form, authenticator_part, page_summary, summary_part};
+use records::{Page, Record};
 
-// Whether a record's authenticator is the one worked out from its own state and summary.
-pub fn valid<'a>(inner: &'a [u32; 8], outer: &'a [u32; 8], record: &[u8], form: Form) -> bool
-    requires { length «record».now ≡ record_size (form_of form) }
-    ensures { result ≡ same (authenticator (form_of form) «record».now) (own_authenticator (form_of form) (halves inner.now outer.now) «record».now) }
+// Whether a record's authenticator is the one worked out from its own state and summary. Inlined, since its own stack
+// would lie under that of the hash.
+#[inline(always)]
+pub fn valid(key: &Prepared, r: &Record<'_>) -> bool
+    ensures { result ≡ same (authenticator (form_of r.now.form) r.now.bytes.now) (own_authenticator (form_of r.now.form) key.now r.now.bytes.now) }
 {
-    let worked_out = authenticator_of(inner, outer, record, form);
-    same(authenticator_part(record, form), &worked_out)
+    let worked_out = authenticator_of(key, r);
+    same(r.authenticator(), &worked_out)
 }
 
 // Whether a record's summary is the page's.
-pub fn current(page: &[u8], record: &[u8], form: Form) -> bool
-    requires page_len { length page.now ≡ page_size }
-    requires record_len { length «record».now ≡ record_size (form_of form) }
-    ensures { result ≡ same (summary (form_of form) «record».now) (page_summary page.now) }
+pub fn current(page: &Page<'_>, r: &Record<'_>) -> bool
+    ensures { result ≡ same (summary (form_of r.now.form) r.now.bytes.now) (page_summary page.now.bytes.now) }
 {
-    let own = summary_part(record, form);
-    let held = page_summary(page);
+    let own = r.summary();
+    let held = page.summary();
     same(own, held)
 }

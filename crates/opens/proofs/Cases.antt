@@ -1,11 +1,12 @@
 -- What open answers, by what its three tests say, and the record that it writes. Assumes nothing.
 use mathlib.Core.Path.{◌≡◌, refl, ap, ◌∙◌}
 use mathlib.Core.Bool.{Bool, true, false}
-use Prim.Native.Nat.{ℕ, ◌*◌, ◌≤◌, ◌<◌}
+use Prim.Native.Nat.{ℕ, ◌*◌, ◌≤◌}
 use mathlib.Core.List.{List, [], ◌∷◌}
 use lib.ListN.{length, replicate}
 use lib.Dec.{eqb, leb}
-use borrow.Author.Tests.{eq-eqb, ne_eqb, le-leb, lt-leb}
+use borrow.Author.Tests.{eq-eqb, le-leb}
+use Rattle.std.specs.Prelude.{Ok, Err}
 use Rattle.numbers.specs.Parts.{over, join}
 use Rattle.numbers.specs.Comparing.{same}
 use Rattle.numbers.proofs.Comparison.{same_iff}
@@ -28,7 +29,6 @@ use Rattle.answers.specs.Judging.{unless, and_then}
 use Rattle.answers.specs.Answers.{opened_by, open_tests, opened}
 use Rattle.answers.specs.Edition.{this_edition}
 use Rattle.offers.proofs.Authenticators.{sealed-bound}
-use Rattle.opens.specs.declared.OpenAnswer.TheVariants.{Opened as Accepted, Refused}
 use Rattle.opens.specs.Told.{told_open}
 
 -- by the tests' answers
@@ -45,15 +45,9 @@ unfolding zero_summary
 zeros page s r long is test = test ∙ rw (is, length-page_summary page long) refl
 
 module _ (page answer : List ℕ) where
-  pub open_1 : (length page ≡ page_size → ⊥) → told_open (Refused Page) page answer ≡ opened this_edition page answer
-  open_1 other = rw (by_tests page answer false _ _ (ne_eqb (length page) page_size other) refl refl) refl
-
   module _ (size : length page ≡ page_size) where
-    pub open_2 : length answer < record_size version1 → told_open (Refused Answer) page answer ≡ opened this_edition page answer
-    open_2 short = rw (by_tests page answer true false _ (eq-eqb (length page) page_size size) (lt-leb (record_size version1) (length answer) short) refl) refl
-
     module _ (room : record_size version1 ≤ length answer) (s : List ℕ) (r : Bool) (is : s ≡ page_summary page) (test : r ≡ same s (replicate (length s) 0)) where
-      pub open_13 : r ≡ false → told_open (Refused Fresh) page answer ≡ opened this_edition page answer
+      pub open_13 : r ≡ false → told_open (Err Fresh) page answer ≡ opened this_edition page answer
       open_13 old =
           rw (by_tests page answer true true false (eq-eqb (length page) page_size size) (le-leb (record_size version1) (length answer) room) (failed r _ (zeros page s r size is test) old)) refl
 
@@ -61,7 +55,7 @@ module _ (page answer : List ℕ) where
       fresh new = (same_iff (page_summary page) zero_summary).0 (passed r _ (zeros page s r size is test) new)
 
       pub open_0 : r ≡ true → (after : List ℕ) → after ≡ over 0 (bound_record this_edition page (page_summary page) (bytes_of_state (first_state racks))) answer
-          → told_open Accepted page after ≡ opened this_edition page answer
+          → told_open (Ok tt) page after ≡ opened this_edition page answer
       open_0 new after written =
           rw (by_tests page answer true true true (eq-eqb (length page) page_size size) (le-leb (record_size version1) (length answer) room) (passed r _ (zeros page s r size is test) new), written, fresh new) refl
 

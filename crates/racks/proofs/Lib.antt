@@ -6,3 +6,4 @@ pub mod StateRule
 pub mod FirstState
 pub mod Percents
 pub mod Sums
+mod StateChunks

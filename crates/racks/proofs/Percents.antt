@@ -5,19 +5,14 @@ use mathlib.Core.Bool.{true}
 use Prim.Native.Nat.{ℕ, ◌*◌, ◌/◌, ◌≤◌, ◌<◌}
 use native.Mathlib.Nat.{div-le_of_le-mul}
 use native.Mathlib.Omega.{arith}
-use borrow.Author.Tests.{eq-eqb, ne_eqb}
+use borrow.Author.Tests.{ne_eqb}
 use Rattle.racks.specs.declared.Rack.{Rack}
 use Rattle.racks.specs.Rule.{good_rack}
 use Rattle.racks.specs.Figures.{percent}
 use Rattle.racks.proofs.StateRule.{good_iff}
 
--- a slot with no rack
-pub percent_none : (r : Rack) → r.capacity ≡ 0 → percent r ≡ 0
-unfolding percent
-percent_none r e = rw (eq-eqb _ _ e)
-
 -- a rack with a capacity
-pub percent-some : (r : Rack) → (r.capacity ≡ 0 → ⊥) → percent r ≡ 100 * r.stored / r.capacity
+percent-some : (r : Rack) → (r.capacity ≡ 0 → ⊥) → percent r ≡ 100 * r.stored / r.capacity
 unfolding percent
 percent-some r h = rw (ne_eqb _ _ h)
 

@@ -50,6 +50,9 @@ rack_of-part at l =
     let start : at + 0 ≡ at = add-zero at in
     ap rack_of_fields (rw start at (cut_at-part at rack_size 0 rack_widths l (le_refl rack_size)))
 
+-- for a rack that is read field by field
+pub ruleset fields = (rack_of-part)
+
 -- r laid field by field is r laid
 pub lay_at_rack : (at : ℕ) (r : Rack) (d : List ℕ) → at + rack_size ≤ length d → lay_at at (fields_of_rack r) d ≡ over at (bytes_of_rack r) d
 unfolding bytes_of_rack

@@ -1,15 +1,14 @@
--- The racks of a state where they lie in bytes, for every number of racks: how many, rack i, those from rack i on, and one rack laid
--- over the others; in bytes that are the state's alone, and in a part of longer ones.
+-- The racks of a state where they lie in bytes, for every number of racks: how many, rack i, and one rack laid over the others; in
+-- bytes that are the state's alone, and in a part of longer ones.
 -- The idea: a state is a form of n slots, wherever it starts. Assumes nothing.
 use mathlib.Core.Path.{◌≡◌, refl, ◌∙◌}
 use Prim.Native.Nat.{ℕ, ◌+◌, ◌*◌, ◌/◌, ◌≤◌, ◌<◌}
 use native.Mathlib.Nat.{add-zero, zero-add}
-use native.Mathlib.Numerals.{add-one}
 use native.Mathlib.Decide.{ℕ_discrete}
 use native.Mathlib.Omega.{arith}
-use mathlib.Core.List.{List, [], ◌∷◌, map}
-use lib.ListN.{length, drop, set, replicate, length-map, length-replicate, length-set, drop_of_length-le, get_or-map}
-use lib.Seq.{drop-cons, ext_get_or, get_or-set_same, get_or-set_other}
+use mathlib.Core.List.{List, [], map}
+use lib.ListN.{length, set, replicate, length-map, length-replicate, length-set, get_or-map}
+use lib.Seq.{ext_get_or, get_or-set_same, get_or-set_other}
 use Rattle.numbers.specs.Numbers.{be, be_from}
 use Rattle.numbers.specs.Parts.{part, over, size, cut_at}
 use Rattle.numbers.proofs.Parts.{part-over}
@@ -100,18 +99,6 @@ module _ (n : ℕ) (l : List ℕ) where
   pub rack_at-state_of : (i : ℕ) → i < n → rack_at (state_of n l) i ≡ rack_of (part (i * rack_size) rack_size l)
   unfolding state_of
   rack_at-state_of i h = rw zero-add at (rack_at_racks_from 0 n i l h)
-
-  -- the racks from i on: rack i, and those from the next on
-  pub drop-state_of : (i : ℕ) → i < n → drop i (state_of n l) ≡ rack_of (part (i * rack_size) rack_size l) ∷ drop (i + 1) (state_of n l)
-  drop-state_of i h =
-      let inside : i < length (state_of n l) = rw length-state_of h in
-      rw (← rack_at-state_of i h, add-one) (drop-cons (state_of n l) i empty_rack inside)
-
-  -- from n on there are none
-  pub drop-state_of_end : (i : ℕ) → n ≤ i → drop i (state_of n l) ≡ []
-  drop-state_of_end i h =
-      let past : length (state_of n l) ≤ i = rw length-state_of h in
-      drop_of_length-le (state_of n l) past
 
   -- with r laid in slot i
   pub state_of-over : (i : ℕ) (r : Rack) → i < n → FitsWidths r → n * rack_size ≤ length l

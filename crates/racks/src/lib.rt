@@ -26,7 +26,7 @@ pub const AMOUNT_LIMIT: u32 = 100_000_000;
 pub const FLOW_LIMIT: u64 = 1_000_000_000_000_000;
 
 // A rack is its four figures, in ampere-seconds: capacity, stored, taken in, given out.
-#[derive(Clone, Copy)]
+#[derive(Clone, Copy, Debug, PartialEq, Eq)]
 pub struct Rack {
     pub capacity: u32,
     pub stored: u32,

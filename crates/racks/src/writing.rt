@@ -10,8 +10,8 @@ pub fn write_rack(d: &mut [u8], at: usize, r: Rack)
     requires { at + rack_size ≤ length d.old }
     ensures { d.new ≡ over at (bytes_of_rack r) d.old }
 {
-    numbers::write32(d, at, r.capacity);
-    numbers::write32(d, at + 4, r.stored);
-    numbers::write64(d, at + 8, r.taken);
-    numbers::write64(d, at + 16, r.given);
+    numbers::write(d, at, r.capacity);
+    numbers::write(d, at + 4, r.stored);
+    numbers::write(d, at + 8, r.taken);
+    numbers::write(d, at + 16, r.given);
 }

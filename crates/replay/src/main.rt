@@ -22,22 +22,28 @@
 #![tactic(auto)]
 
 mod items;
-mod lines;
-mod making;
-mod output;
+mod told;
 
-use items::answer_next;
+use inputs::{ItemError, answer_items};
+use items::{answer_offer, answer_open, answer_resume, answer_view};
 use std::io;
 
-// A proved loop has to end, and nothing says that the input does. So the loop has a last turn, whose number no run
-// reaches. Neither stream has a buffer that outlives a call: each line is out before the next item is read.
+// Neither stream has a buffer that outlives a call: each line is out before the next item is read. Repeat stands in a
+// closure, since it takes the page by `&`, and perform by `&mut`.
 fn main(rt: HostRuntime) -> io::Result<()> {
     let mut input = rt.stdin();
     let mut out = rt.stdout();
-    for _ in 0..u64::MAX {
-        if !answer_next(&mut input, &mut out)? {
-            break;
-        }
-    }
-    Ok(())
+    answer_items(&mut input, &mut out, |input, out, tag| match tag {
+        b'o' => answer_open(input, out),
+        b'p' => answer_offer(input, out, 'p', keeper::perform),
+        b'r' => answer_offer(
+            input,
+            out,
+            'r',
+            |page, record, request, answer| keeper::repeat(page, record, request, answer),
+        ),
+        b'v' => answer_view(input, out),
+        b'u' => answer_resume(input, out),
+        _ => Err(ItemError::Bad),
+    })
 }

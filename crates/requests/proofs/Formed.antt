@@ -1,22 +1,21 @@
 -- What is known of bytes that are well formed, and of a request that was read.
 -- The idea: the definition is a chain of tests, and each of them passed. Assumes nothing.
-use mathlib.Core.Path.{◌≡◌, refl, sym}
+use mathlib.Core.Path.{◌≡◌, refl, sym, ◌∙◌}
 use mathlib.Core.Bool.{Bool, true, false, not, ◌&&◌, ◌||◌, true≢false, false≢true, cond}
 use Prim.Native.Nat.{ℕ, zero, suc, ◌-◌, ◌≤◌, ◌<◌}
 use native.Mathlib.Omega.{arith}
 use mathlib.Core.List.{List, [], ◌∷◌}
 use lib.ListN.{length}
 use lib.Dec.{leb, ltb, eqb}
-use borrow.Author.Tests.{eqb-true, eqb-false, not-true, leb-true, ltb-true, lt-ltb, eq-eqb, ne_eqb}
+use borrow.Author.Tests.{eqb-true, eqb-false, not-true, leb-true, ltb-true, lt-ltb, ne_eqb}
+use Rattle.std.specs.Prelude.{Some, None}
 use Rattle.racks.specs.Rule.{amount_limit}
 use Rattle.requests.specs.declared.Request.{Request}
-use Rattle.requests.specs.declared.Reading.TheVariants.{Formed, Malformed}
 use Rattle.requests.specs.Layout.{request_size, length_field, version, kind, rack, other, amount}
 use Rattle.requests.specs.Formed.{right_form, right_other, right_amount, well_formed}
 use Rattle.requests.specs.Requests.{request_by, request_of, read_request}
 use Rattle.requests.specs.Range.{InRange}
 use Rattle.requests.proofs.Chains.{each_passed}
-use Rattle.requests.proofs.Tests.{form_is}
 
 -- a form that is right
 pub record RightForm (l : List ℕ) : Type 0 where
@@ -30,8 +29,13 @@ right_form_lem l right =
     let t = each_passed (eqb (length l) request_size) (eqb (length_field l) (request_size - 2) ∷ eqb (version l) 1 ∷ []) right in
     record { size = eqb-true _ _ t.0; count = eqb-true _ _ t.1.0; first = eqb-true _ _ t.1.1 }
 
+-- past the code's test of the form, the size is right
+pub tested_size : (l : List ℕ) (b : Bool) → b ≡ right_form l → b ≡ true → length l ≡ request_size
+tested_size l b tested so = (right_form_lem l (sym tested ∙ so)).size
+
 pub form_right : (l : List ℕ) → RightForm l → right_form l ≡ true
-form_right l r = form_is l (sym r.count) (sym r.first) (eq-eqb _ _ r.size) refl refl
+unfolding right_form
+form_right l r = rw (r.size, r.count, r.first) refl
 
 -- what is well formed has the right form
 pub formed_form : (n : ℕ) (l : List ℕ) → well_formed n l ≡ true → RightForm l
@@ -79,11 +83,11 @@ fields n (suc (suc (suc (suc zero)))) i o a low high none r =
 fields n (suc (suc (suc (suc (suc k))))) i o a low high none r = absurd (omega arith)
 
 -- what was read was well formed, and is what its fields ask
-picked : (b : Bool) (p q : Request) → cond b (Formed p) Malformed ≡ Formed q → (b ≡ true) × (p ≡ q)
+picked : (b : Bool) (p q : Request) → cond b (Some p) None ≡ Some q → (b ≡ true) × (p ≡ q)
 picked true p q e = (refl, cc)
 picked false p q e = let z : ◌≡◌ {A = ℕ} 0 1 = cc in absurd (omega arith)
 
-pub read_formed : (n : ℕ) (l : List ℕ) (q : Request) → read_request n l ≡ Formed q → (well_formed n l ≡ true) × (request_of l ≡ q)
+pub read_formed : (n : ℕ) (l : List ℕ) (q : Request) → read_request n l ≡ Some q → (well_formed n l ≡ true) × (request_of l ≡ q)
 unfolding read_request
 read_formed n l q read = picked (well_formed n l) (request_of l) q read
 
@@ -104,7 +108,7 @@ formed-range n l well =
     }
 
 -- what was read is in range
-pub in_range : (n : ℕ) (l : List ℕ) (q : Request) → read_request n l ≡ Formed q → InRange n q
+pub in_range : (n : ℕ) (l : List ℕ) (q : Request) → read_request n l ≡ Some q → InRange n q
 in_range n l q read =
     let r = read_formed n l q read in
     rw r.1 at (formed-range n l r.0)

@@ -6,13 +6,13 @@ use native.Mathlib.Omega.{arith}
 use mathlib.Core.List.{List, [], map}
 use lib.ListN.{length, get_or}
 use borrow.Author.Tests.{le-leb, lt-ltb}
+use Rattle.std.specs.Prelude.{Some}
 use Rattle.numbers.specs.Numbers.{be, bytes_of, Bytes}
 use Rattle.numbers.specs.Parts.{size, cut_at, fields_of, join}
 use Rattle.numbers.proofs.Numbers.{be-bytes_of}
 use Rattle.numbers.proofs.Layouts.{length-join, join-cut_at, cut_at-join}
 use Rattle.numbers.proofs.Forms.{part-whole, widths_fields_of, fields_of-cut_at, bytes-fields_of, bytes-join}
 use Rattle.racks.specs.Rule.{amount_limit}
-use Rattle.requests.specs.declared.Reading.TheVariants.{Formed}
 use Rattle.requests.specs.Layout.{request_widths, request_size, kind, rack, other, amount, numbers_of_request, fields_of_request, bytes_of_request}
 use Rattle.requests.specs.Formed.{right_other, right_amount, well_formed}
 use Rattle.requests.specs.Requests.{request_by, request_of, read_request}
@@ -64,7 +64,7 @@ rewritten_request l bytes right =
 
 -- what is written of a request in range is read back
 pub read_back : (n k i o a : ℕ) → i < 256 → o < 256 → 1 ≤ k → k ≤ 4 → (k ≤ 3 → o ≡ 0) → InRange n (request_by k i o a)
-    → read_request n (bytes_of_request k i o a) ≡ Formed (request_by k i o a)
+    → read_request n (bytes_of_request k i o a) ≡ Some (request_by k i o a)
 unfolding read_request request_of right_other right_amount well_formed
 read_back n k i o a rack_fits other_fits low high none range =
     let f = fields n k i o a low high none range in

@@ -2,6 +2,7 @@
 -- read.
 pub mod Layout
 pub mod Formed
+pub mod Kinds
 pub mod Requests
 pub mod Counted
 pub mod Range

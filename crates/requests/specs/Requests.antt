@@ -1,9 +1,7 @@
 -- What a request's bytes ask: one value, whatever the form of the bytes. The rules read this value alone. Assumes nothing.
-use Rattle.std.specs.Prelude.{ℕ, Bool, true, false, cond, List, eqb}
+use Rattle.std.specs.Prelude.{ℕ, Bool, true, false, cond, List, eqb, Option, Some, None}
 use Rattle.requests.specs.declared.Request.{Request}
 use Rattle.requests.specs.declared.Request.TheVariants.{Capacity, Charge, Discharge, Move}
-use Rattle.requests.specs.declared.Reading.{Reading}
-use Rattle.requests.specs.declared.Reading.TheVariants.{Formed, Malformed}
 use Rattle.requests.specs.Layout.{kind, rack, other, amount}
 use Rattle.requests.specs.Formed.{well_formed}
 
@@ -20,8 +18,8 @@ unfoldable pub request_of : List ℕ → Request
 request_of l = request_by (kind l) (rack l) (other l) (amount l)
 
 -- the request that bytes stand for, among n racks
-unfoldable pub read_request : ℕ → List ℕ → Reading
-read_request n l = cond (well_formed n l) (Formed (request_of l)) Malformed
+unfoldable pub read_request : ℕ → List ℕ → Option Request
+read_request n l = cond (well_formed n l) (Some (request_of l)) None
 
 -- the rack that a request names first
 abbrev pub rack_of_request : Request → ℕ

@@ -3,15 +3,16 @@
 #![tactic(auto)]
 
 mod form;
+mod kinds;
 
-ghost use Rattle.std.specs.Prelude.{◌≡◌, length};
-ghost use Rattle.requests.specs.Layout.{request_size};
-ghost use Rattle.requests.specs.Requests.{request_of, read_request};
+ghost use Rattle.std.specs.Prelude.{◌≡◌};
+ghost use Rattle.requests.specs.Requests.{read_request};
 
-use form::{byte, well_formed};
+use form::Fields;
+use kinds::Kind;
 
 // A request, decoded: what is asked of which rack. Every form of a request's bytes gives one of these.
-#[derive(Clone, Copy)]
+#[derive(Clone, Copy, Debug, PartialEq, Eq)]
 pub enum Request {
     Capacity {
         rack: usize,
@@ -32,41 +33,20 @@ pub enum Request {
     },
 }
 
-// What reading a request's bytes gives: the request, or refusal 6.
-#[derive(Clone, Copy)]
-pub enum Reading {
-    Formed(Request),
-    Malformed,
-}
-
-// The request that the bytes of s stand for, among so many racks.
-pub fn read_request(s: &[u8], racks: usize) -> Reading
+// The request that the bytes of s stand for, among so many racks, if they are well formed.
+#[tactic(auto, unfolding(crate::specs::Requests::read_request, crate::specs::Formed::well_formed))]
+pub fn read_request(s: &[u8], racks: usize) -> Option<Request>
     ensures { result ≡ read_request racks s.now }
 {
-    if well_formed(s, racks) {
-        Reading::Formed(request_of(s))
-    } else {
-        Reading::Malformed
+    let fields = Fields::of(s)?;
+    if racks <= fields.rack() {
+        return None;
     }
-}
-
-// The request in the fields of s, by its kind.
-fn request_of(s: &[u8]) -> Request
-    requires { length s.now ≡ request_size }
-    ensures { result ≡ request_of s.now }
-{
-    let kind = byte(s, 3);
-    let rack = byte(s, 4);
-    let other = byte(s, 5);
-    let amount = numbers::read32(s, 6);
-    match kind {
-        1 => Request::Capacity { rack, amount },
-        2 => Request::Charge { rack, amount },
-        3 => Request::Discharge { rack, amount },
-        _ => Request::Move {
-            rack,
-            other,
-            amount,
-        },
+    if !fields.right_other(racks) {
+        return None;
     }
+    if !fields.right_amount() {
+        return None;
+    }
+    Some(fields.request())
 }

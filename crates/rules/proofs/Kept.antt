@@ -7,6 +7,7 @@ use Prim.Native.Nat.{ℕ, ◌+◌, ◌≤◌, ◌<◌}
 use native.Mathlib.Omega.{arith}
 use lib.ListN.{length, set, length-set}
 use lib.Seq.{get_or-set_other}
+use Rattle.std.specs.Prelude.{Ok}
 use Rattle.racks.specs.declared.Rack.{Rack}
 use Rattle.racks.specs.Racks.{State, empty_rack, rack_at}
 use Rattle.racks.specs.Rule.{amount_limit, good_state, Good}
@@ -17,7 +18,6 @@ use Rattle.requests.specs.declared.Request.{Request}
 use Rattle.requests.specs.declared.Request.TheVariants.{Capacity, Charge, Discharge, Move}
 use Rattle.requests.specs.Requests.{charged, discharged}
 use Rattle.requests.specs.Range.{InRange}
-use Rattle.rules.specs.declared.Ruling.TheVariants.{Free}
 use Rattle.rules.specs.Rules.{with_capacity, charged_by, discharged_by, ruling, carry_out}
 use Rattle.rules.specs.Ready.{TakesIn, GivesOut}
 use Rattle.rules.proofs.Rulings.{free-capacity, free_charge, free_discharge, free_move}
@@ -42,7 +42,7 @@ set_good : (s : State) (i : ℕ) (f : Rack → Rack) → good_state s ≡ true �
 set_good s i f good keeps = good_set s i (f (rack_at s i)) good ((good_iff _).1 (keeps ((good_iff _).0 (good_at s i good))))
 
 -- the state rule is kept
-pub good_carry_out : (s : State) (q : Request) → InRange (length s) q → ruling s q ≡ Free → good_state s ≡ true → good_state (carry_out s q) ≡ true
+pub good_carry_out : (s : State) (q : Request) → InRange (length s) q → ruling s q ≡ Ok tt → good_state s ≡ true → good_state (carry_out s q) ≡ true
 unfolding carry_out
 good_carry_out s (Capacity i a) range free good =
     set_good s i (with_capacity a) good (good_capacity a (rack_at s i) range.within (free-capacity s i a free))
@@ -55,7 +55,7 @@ good_carry_out s (Move i o a) range free good =
     good_set (sent s i a) o (charged_by a (rack_at s o)) first ((good_iff _).1 other)
 
 -- the total changes by what is charged and what is discharged
-pub total-carry_out : (s : State) (q : Request) → InRange (length s) q → ruling s q ≡ Free
+pub total-carry_out : (s : State) (q : Request) → InRange (length s) q → ruling s q ≡ Ok tt
     → total_stored (carry_out s q) + discharged q ≡ total_stored s + charged q
 unfolding carry_out
 total-carry_out s (Capacity i a) range free = omega (arith, total-set s i (with_capacity a (rack_at s i)) range.named.rack)
@@ -77,7 +77,7 @@ pub record Kept (gain loss : ℕ) (s t : State) : Type 0 where
   pub total : total_stored t + loss ≡ total_stored s + gain
   pub risen : (j : ℕ) → Risen (rack_at s j) (rack_at t j)
 
-pub kept_carry_out : (s : State) (q : Request) → InRange (length s) q → ruling s q ≡ Free → good_state s ≡ true
+pub kept_carry_out : (s : State) (q : Request) → InRange (length s) q → ruling s q ≡ Ok tt → good_state s ≡ true
     → Kept (charged q) (discharged q) s (carry_out s q)
 kept_carry_out s q range free good =
     record { racks = length-carry_out s q; good = good_carry_out s q range free good; total = total-carry_out s q range free; risen = never_fall s q }

@@ -7,17 +7,15 @@ use Prim.Native.Nat.{ℕ, ◌+◌}
 use native.Mathlib.Omega.{arith}
 use mathlib.Core.List.{List, [], ◌∷◌, ◌++◌}
 use lib.ListN.{length}
+use Rattle.std.specs.Prelude.{Option, Some, None, Ok, Err}
+use Rattle.refusals.specs.Tested.{Tested}
 use Rattle.racks.specs.Racks.{State, first_state}
 use Rattle.racks.specs.Figures.{total_stored}
 use Rattle.racks.specs.Rule.{good_state}
 use Rattle.racks.proofs.FirstState.{length-first_state, good_first_state, total-first_state}
 use Rattle.requests.specs.declared.Request.{Request}
-use Rattle.requests.specs.declared.Reading.{Reading}
-use Rattle.requests.specs.declared.Reading.TheVariants.{Formed, Malformed}
 use Rattle.requests.specs.Requests.{read_request, charged, discharged}
 use Rattle.requests.proofs.Formed.{in_range}
-use Rattle.rules.specs.declared.Ruling.{Ruling}
-use Rattle.rules.specs.declared.Ruling.TheVariants.{Free, Barred}
 use Rattle.rules.specs.Rules.{ruling, carry_out}
 use Rattle.rules.specs.Replay.{Booked, booked, refused, by_ruling, by_reading, book, then_book, replay}
 use Rattle.rules.specs.Sums.{of_reading, sum_of, sum_charged, sum_discharged}
@@ -28,17 +26,17 @@ use Rattle.rules.proofs.Kept.{Kept, kept_none, kept_then, kept_carry_out}
 -- bytes that were booked: the request that they ask, that nothing bars, and that gives t
 pub record Booking (n : ℕ) (s : State) (l : List ℕ) (t : State) : Type 0 where
   pub request : Request
-  pub read : read_request n l ≡ Formed request
-  pub free : ruling s request ≡ Free
+  pub read : read_request n l ≡ Some request
+  pub free : ruling s request ≡ Ok tt
   pub gives : carry_out s request ≡ t
 
-free_of : (v : Ruling) (s t : State) → by_ruling v s ≡ booked t → (v ≡ Free) × (s ≡ t)
-free_of Free s t e = (refl, cc)
-free_of (Barred r) s t e = let z : ◌≡◌ {A = ℕ} 0 1 = cc in absurd (omega arith)
+free_of : (v : Tested) (s t : State) → by_ruling v s ≡ booked t → (v ≡ Ok tt) × (s ≡ t)
+free_of (Ok x) s t e = (refl, cc)
+free_of (Err r) s t e = let z : ◌≡◌ {A = ℕ} 0 1 = cc in absurd (omega arith)
 
-booking_of : (n : ℕ) (s t : State) (l : List ℕ) (r : Reading) → read_request n l ≡ r → by_reading s r ≡ booked t → Booking n s l t
-booking_of n s t l Malformed read e = let z : ◌≡◌ {A = ℕ} 0 1 = cc in absurd (omega arith)
-booking_of n s t l (Formed q) read e =
+booking_of : (n : ℕ) (s t : State) (l : List ℕ) (r : Option Request) → read_request n l ≡ r → by_reading s r ≡ booked t → Booking n s l t
+booking_of n s t l None read e = let z : ◌≡◌ {A = ℕ} 0 1 = cc in absurd (omega arith)
+booking_of n s t l (Some q) read e =
     let f = free_of (ruling s q) (carry_out s q) t e in
     record { request = q; read = read; free = f.0; gives = f.1 }
 
@@ -47,7 +45,7 @@ unfolding book
 booking n s t l e = booking_of n s t l (read_request n l) refl e
 
 -- what is booked, from what was read
-pub book_is : (n : ℕ) (s : State) (l : List ℕ) {r : Reading} → read_request n l ≡ r → book n s l ≡ by_reading s r
+pub book_is : (n : ℕ) (s : State) (l : List ℕ) {r : Option Request} → read_request n l ≡ r → book n s l ≡ by_reading s r
 unfolding book
 book_is n s l read = rw read
 

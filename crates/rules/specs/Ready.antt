@@ -1,13 +1,12 @@
 -- What the functions of this crate ask for: a rack with room for a change, and a state, lying in bytes, on which a request can be
 -- carried out. Assumes nothing.
-use Rattle.std.specs.Prelude.{◌≡◌, ℕ, ◌+◌, ◌*◌, ◌/◌, ◌≤◌, ◌<◌, List, length, set}
+use Rattle.std.specs.Prelude.{◌≡◌, ℕ, ◌+◌, ◌*◌, ◌/◌, ◌≤◌, ◌<◌, List, length, set, Ok}
 use Rattle.racks.specs.declared.Rack.{Rack}
 use Rattle.racks.specs.Racks.{State}
 use Rattle.racks.specs.Layout.{rack_size, state_of}
 use Rattle.racks.specs.Rule.{flow_limit}
 use Rattle.requests.specs.declared.Request.{Request}
 use Rattle.requests.specs.Range.{InRange}
-use Rattle.rules.specs.declared.Ruling.TheVariants.{Free}
 use Rattle.rules.specs.Rules.{ruling}
 
 -- a rack can take in so much: neither capacity nor the limit is passed
@@ -41,4 +40,4 @@ pub record Put (l m : List ℕ) (i : ℕ) (r : Rack) (n : ℕ) : Type 0 where
 pub record Ready (l : List ℕ) (q : Request) : Type 0 where
   pub whole : racks_in l * rack_size ≡ length l
   pub range : InRange (racks_in l) q
-  pub free : ruling (state_in l) q ≡ Free
+  pub free : ruling (state_in l) q ≡ Ok tt

@@ -1,16 +1,15 @@
 -- Document 01, 'Charge rules' and the rows 9, 10 and 11 of 'Numbers of refusal': what bars a request on a state, and what a request
 -- changes. Capacity: the rack's capacity becomes amount. Charge: stored and taken in rise by amount. Discharge: stored falls and
 -- given out rises by amount. Move: the rack discharges and other charges the same amount. Assumes nothing.
-use Rattle.std.specs.Prelude.{ℕ, ◌+◌, ◌-◌, Bool, false, ◌||◌, cond, ltb, set}
+use Rattle.std.specs.Prelude.{ℕ, ◌+◌, ◌-◌, Bool, false, ◌||◌, cond, ltb, set, Ok, Err}
 use Rattle.racks.specs.declared.Rack.{Rack}
 use Rattle.racks.specs.Racks.{State, rack_at}
 use Rattle.racks.specs.Rule.{flow_limit}
 use Rattle.refusals.specs.declared.Refusal.TheVariants.{Capacity as CapacityRefusal, Stored, Limit}
+use Rattle.refusals.specs.Tested.{Tested}
 use Rattle.requests.specs.declared.Request.{Request}
 use Rattle.requests.specs.declared.Request.TheVariants.{Capacity, Charge, Discharge, Move}
 use Rattle.requests.specs.Requests.{arrives}
-use Rattle.rules.specs.declared.Ruling.{Ruling}
-use Rattle.rules.specs.declared.Ruling.TheVariants.{Free, Barred}
 
 -- 9: charge, or a move into other, would pass capacity; new capacity under stored
 unfoldable pub over_capacity : State → Request → Bool
@@ -34,9 +33,9 @@ over_limit s (Discharge i a) = ltb flow_limit ((rack_at s i).given + a)
 over_limit s (Move i o a) = ltb flow_limit ((rack_at s o).taken + arrives (Move i o a)) || ltb flow_limit ((rack_at s i).given + a)
 
 -- tests are made in the order of the numbers, and the first that applies is the answer
-unfoldable pub ruling : State → Request → Ruling
+unfoldable pub ruling : State → Request → Tested
 ruling s q =
-    cond (over_capacity s q) (Barred CapacityRefusal) (cond (over_stored s q) (Barred Stored) (cond (over_limit s q) (Barred Limit) Free))
+    cond (over_capacity s q) (Err CapacityRefusal) (cond (over_stored s q) (Err Stored) (cond (over_limit s q) (Err Limit) (Ok tt)))
 
 -- a rack after each of the three changes
 abbrev pub with_capacity : ℕ → Rack → Rack

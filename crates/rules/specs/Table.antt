@@ -1,7 +1,7 @@
 -- Document 01, 'Acceptance table': the cases K1 to K14 as one table with a single theorem, from the definitions that the contracts
 -- cite. A rack is (capacity, stored, taken in, given out). It stands as rack 3 of a book, and a request for it is given as bytes.
 -- Assumes nothing.
-use Rattle.std.specs.Prelude.{◌≡◌, refl, Bool, true, false, ◌&&◌, cond, ℕ, List, [], ◌∷◌, eqb, set}
+use Rattle.std.specs.Prelude.{◌≡◌, refl, Bool, true, false, ◌&&◌, cond, ℕ, List, [], ◌∷◌, eqb, set, Option, Some, None}
 use Rattle.numbers.specs.Numbers.{be_from, be, bytes_of}
 use Rattle.numbers.specs.Parts.{part}
 use Rattle.numbers.specs.Comparing.{same}
@@ -10,14 +10,13 @@ use Rattle.racks.specs.declared.Rack.{Rack}
 use Rattle.racks.specs.Racks.{State, first_state}
 use Rattle.racks.specs.Figures.{percent}
 use Rattle.racks.specs.Edition.{racks}
-use Rattle.requests.specs.declared.Reading.{Reading}
-use Rattle.requests.specs.declared.Reading.TheVariants.{Formed, Malformed}
 use Rattle.requests.specs.declared.Request.TheVariants.{Capacity, Charge, Discharge, Move}
 use Rattle.requests.specs.Layout.{bytes_of_request}
 use Rattle.requests.specs.Formed.{right_form, right_other, right_amount, well_formed}
 use Rattle.requests.specs.Requests.{request_by, request_of, read_request}
 use Rattle.rules.specs.Rules.{over_capacity, over_stored, over_limit, ruling, carry_out}
 use Rattle.rules.specs.Replay.{Booked, booked, refused, book}
+use Rattle.requests.specs.declared.Request.{Request}
 
 -- ---- what a case says
 
@@ -55,12 +54,12 @@ abbrev refuses : Rack → ℕ → ℕ → ℕ → Bool
 refuses r kind amount n = refused_as (book racks (among r) (bytes_of_request kind 3 0 amount)) n
 
 -- bytes are read as a charge of an amount to a rack
-abbrev charge_of : ℕ → ℕ → Reading → Bool
-charge_of i a (Formed (Charge j b)) = eqb i j && eqb a b
-charge_of i a (Formed (Capacity j b)) = false
-charge_of i a (Formed (Discharge j b)) = false
-charge_of i a (Formed (Move j o b)) = false
-charge_of i a Malformed = false
+abbrev charge_of : ℕ → ℕ → Option Request → Bool
+charge_of i a (Some (Charge j b)) = eqb i j && eqb a b
+charge_of i a (Some (Capacity j b)) = false
+charge_of i a (Some (Discharge j b)) = false
+charge_of i a (Some (Move j o b)) = false
+charge_of i a None = false
 
 -- ---- the table
 

@@ -11,6 +11,7 @@ use racks::Rack;
 use requests::Request;
 
 // Carries a request out that nothing bars; what is stored in its rack then, for a move in the one that gives.
+#[tactic(auto, using(crate::proofs::InPlace::carries))]
 pub fn carry_out(state: &mut [u8], q: Request) -> u32
     requires { Ready state.old q }
     ensures state_after { state.new ≡ bytes_of_state (carry_out (state_in state.old) q) }
@@ -32,7 +33,7 @@ pub fn carry_out(state: &mut [u8], q: Request) -> u32
     }
 }
 
-// The rack's capacity becomes amount.
+// The rack's capacity becomes amount. `Holds` is asked by name: a type would have to hold the lent `&mut` of the state.
 fn set_capacity(state: &mut [u8], rack: usize, amount: u32) -> u32
     requires { Holds state.old rack }
     ensures { Put state.old state.new rack (with_capacity amount (rack_at (state_in state.old) rack)) result }
@@ -43,9 +44,7 @@ fn set_capacity(state: &mut [u8], rack: usize, amount: u32) -> u32
         rack,
         Rack {
             capacity: amount,
-            stored: r.stored,
-            taken: r.taken,
-            given: r.given,
+            ..r
         },
     )
 }
@@ -61,10 +60,9 @@ fn charge(state: &mut [u8], rack: usize, amount: u32) -> u32
         state,
         rack,
         Rack {
-            capacity: r.capacity,
             stored: r.stored + amount,
-            taken: r.taken + amount as u64,
-            given: r.given,
+            taken: r.taken + u64::from(amount),
+            ..r
         },
     )
 }
@@ -80,10 +78,9 @@ fn discharge(state: &mut [u8], rack: usize, amount: u32) -> u32
         state,
         rack,
         Rack {
-            capacity: r.capacity,
             stored: r.stored - amount,
-            taken: r.taken,
-            given: r.given + amount as u64,
+            given: r.given + u64::from(amount),
+            ..r
         },
     )
 }

@@ -8,11 +8,3 @@ mod state;
 
 pub use carrying::carry_out;
 pub use judging::judge;
-use refusals::Refusal;
-
-// Whether a request may be carried out, or which rule bars it.
-#[derive(Clone, Copy)]
-pub enum Ruling {
-    Free,
-    Barred(Refusal),
-}

@@ -12,7 +12,7 @@ use Rattle.sha256.specs.Parsing.{words, block, blocks}
 use Rattle.sha256_block.specs.Step.{next_hash}
 use Rattle.sha256.specs.Computation.{hashes, digest, sha256}
 use Rattle.sha256.specs.Continued.{sha256_after}
-use Rattle.sha256.proofs.MessageLaws.{byte_front, byte_back, same-words, word_1, length_padded}
+use Rattle.sha256.proofs.MessageLaws.{byte_front, byte_back, same-words, word_1}
 
 -- ---- blocks
 
@@ -67,17 +67,6 @@ unfolding hashes
 one_block H a b c d inside = ap (next_hash H) (block_1 a b c d 0 inside)
 
 -- ---- the digest
-
--- the digest of the rest, from the length of the whole message and the number of blocks as the code counts them
-pub after : (H : List ℕ) (n : ℕ) (m : List ℕ) (len count : ℕ) → len ≡ 64 * n + length m → count ≡ (length m + 72) / 64
-    → digest (hashes H (m ++ padding len) count) 8 ≡ sha256_after H n m
-unfolding sha256_after blocks
-after H n m len count long number =
-    let p = m ++ padding (64 * n + length m) in
-    let whole : length p ≡ 64 * ((length m + 72) / 64) =
-    length-append m (padding (64 * n + length m)) ∙ length_padded (64 * n + length m) (length m) (omega arith) in
-    let same : count ≡ length p / 64 = omega arith in
-    ap₂ (λ (l i : ℕ). digest (hashes H (m ++ padding l) i) 8) long same
 
 -- the hash of a message whose first n blocks are q
 pub sha256_after_lem : (q m : List ℕ) (n : ℕ) → length q ≡ 64 * n → sha256 (q ++ m) ≡ sha256_after (hashes H₀ q n) n m

@@ -1,26 +1,27 @@
 -- The digest's bytes, written four at a time behind those that stand there, how many they are, and that they are bytes. Assumes nothing.
-use mathlib.Core.Path.{◌≡◌, refl, ap, ◌∙◌}
-use Prim.Native.Nat.{ℕ, zero, suc, ◌+◌, ◌*◌, ◌/◌, ◌%◌, ◌≤◌}
-use native.Mathlib.Numerals.{add-one}
+use Rattle.std.proofs.Common.{◌≡◌, ℕ, zero, suc, ◌+◌, ◌*◌, ◌≤◌, List, ◌++◌, length, take, get_or, refl, ◌∙◌, arith, length-append, add-one}
 use native.Mathlib.Nat.{div-one}
-use native.Mathlib.Omega.{arith}
-use mathlib.Core.List.{List, [], ◌∷◌, ◌++◌}
-use lib.ListN.{length, take, set, get_or, length-append}
+use borrow.Rule.Slice.PartMut.{put_mid}
+use Rattle.std.specs.Int.{w32, to_be_bytes}
+use Rattle.std.proofs.lemmas.Slice.{take-put_mid}
 use Rattle.numbers.specs.Numbers.{bytes_of, Bytes}
 use Rattle.numbers.proofs.Numbers.{length-bytes_of}
 use Rattle.numbers.proofs.Bytes.{bytes-nil, bytes-append, bytes-bytes_of}
 use Rattle.sha256.specs.Computation.{digest, sha256}
-use Rattle.sha256.proofs.Growing.{four_more}
+
+-- a word's four bytes, as the library gives them
+be_bytes : (x : ℕ) → to_be_bytes w32 x ≡ bytes_of 4 x
+unfolding bytes_of
+be_bytes x = rw (div-one x) refl
 
 -- the bytes of one more word of a hash value
-pub word_more : (H l : List ℕ) (i x : ℕ) → 4 * i + 4 ≤ length l → take (4 * i) l ≡ digest H i → x ≡ get_or H i 0
-    → take (4 * (i + 1)) (set (set (set (set l (4 * i) (x / 16777216 % 256)) (4 * i + 1) (x / 65536 % 256)) (4 * i + 2) (x / 256 % 256)) (4 * i + 3) (x % 256)) ≡ digest H (i + 1)
-unfolding digest bytes_of
-word_more H l i x fits front same =
-    let e : 4 * (i + 1) ≡ 4 * i + 4 = omega arith in
-    let first : x / 1 % 256 ≡ x % 256 = rw div-one in
-    let bytes : x / 16777216 % 256 ∷ x / 65536 % 256 ∷ x / 256 % 256 ∷ x % 256 ∷ [] ≡ bytes_of 4 (get_or H i 0) = rw (← first, same) in
-    rw (e, add-one i) (four_more l (4 * i) (x / 16777216 % 256) (x / 65536 % 256) (x / 256 % 256) (x % 256) fits front ∙ ap (λ (t : List ℕ). digest H i ++ t) bytes)
+pub word_more : (H l b : List ℕ) (i k : ℕ) → 4 * i ≤ length l → take (4 * i) l ≡ digest H i → b ≡ to_be_bytes w32 (get_or H i 0)
+    → take (4 * (i + 1)) (put_mid (4 * i) k l b) ≡ digest H (i + 1)
+unfolding digest
+word_more H l b i k fits front bytes =
+    let four : length b ≡ 4 = rw bytes refl in
+    let behind : take (4 * (i + 1)) (put_mid (4 * i) k l b) ≡ take (4 * i) l ++ b = take-put_mid (4 * i) k l b (4 * (i + 1)) (omega arith) fits in
+    rw (behind, front, bytes, add-one, be_bytes) refl
 
 -- how long a digest is
 pub length-digest : (H : List ℕ) (n : ℕ) → length (digest H n) ≡ 4 * n

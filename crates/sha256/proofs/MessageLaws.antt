@@ -24,10 +24,6 @@ byte_front x y i inside = get_or-append x y 0 i inside
 pub byte_back : (x y : List ℕ) (i j : ℕ) → j ≡ length x + i → get_or (x ++ y) j 0 ≡ get_or y i 0
 byte_back x y i j place = rw place (get_or-append-add x y i 0)
 
--- past the end stands 0
-pub byte_past : (x : List ℕ) (i : ℕ) → length x ≤ i → get_or x i 0 ≡ 0
-byte_past x i past = get_or-eq_default x 0 past
-
 module _ (a b c d : List ℕ) where
   -- how long four lists are
   pub length_4 : length (a ++ b ++ c ++ d) ≡ length a + length b + length c + length d
@@ -104,27 +100,28 @@ pub length_padded : (len n : ℕ) → len % 64 ≡ n % 64 → n + length (paddin
 unfolding k
 length_padded len n whole = omega (arith, length-padding len)
 
--- the sizes of three pieces that end a message of len bytes, and of their padding
-pub record Sizes (a b c : List ℕ) (len : ℕ) : Type 0 where
+-- the sizes of three pieces that end a message of len bytes, and of p, which is the pieces with their padding
+pub record Sizes (a b c : List ℕ) (len : ℕ) (p : List ℕ) : Type 0 where
   pub bound : len ≤ 65536
   pub rest : length a + length b + length c ≤ len
   pub whole : len % 64 ≡ (length a + length b + length c) % 64
-  pub pieces : length (a ++ b ++ c) ≡ length a + length b + length c
-  pub padded : length (a ++ b ++ c ++ padding len) ≡ length a + length b + length c + length (padding len)
-  pub blocks : length a + length b + length c + length (padding len) ≡ 64 * ((length a + length b + length c + 72) / 64)
+  pub padded : length p ≡ length a + length b + length c + length (padding len)
+  pub blocks : length p ≡ 64 * ((length a + length b + length c + 72) / 64)
   pub least : 9 ≤ length (padding len)
+  pub most : length (padding len) ≤ 73
 
-pub sizes : (a b c : List ℕ) (len : ℕ) → Within (a ++ b ++ c) len → Sizes a b c len
-sizes a b c len within =
+pub sizes : (a b c : List ℕ) (len : ℕ) {p : List ℕ} → Within (a ++ b ++ c) len → a ++ b ++ c ++ padding len ≡ p → Sizes a b c len p
+sizes a b c len {p} within same =
     let three : length (a ++ b ++ c) ≡ length a + length b + length c = simp length-append in
+    let padded : length p ≡ length a + length b + length c + length (padding len) = ap length (sym same) ∙ length_4 a b c (padding len) in
     record {
       bound = within.bound;
       rest = omega arith;
       whole = omega arith;
-      pieces = three;
-      padded = length_4 a b c (padding len);
-      blocks = length_padded len (length a + length b + length c) (omega arith);
+      padded = padded;
+      blocks = padded ∙ length_padded len (length a + length b + length c) (omega arith);
       least = omega (arith, length-padding len);
+      most = omega (arith, length-padding len, k_small len);
     }
 
 -- the same, from the pieces' lengths
@@ -141,24 +138,15 @@ aligned len n i whole even behind = omega arith
 pub room : (n p q i : ℕ) → n + p ≡ 64 * q → i % 4 ≡ 0 → i ≤ n → 9 ≤ p → i + 12 ≤ n + p
 room n p q i blocks even begins least = omega arith
 
--- the byte 0x80, the zeros behind it, and zero behind those, as if there were no more
-byte_zeros : (m f : List ℕ) (z i : ℕ) → i < length m + suc z → get_or (m ++ (128 ∷ replicate z 0 ++ f)) i 0 ≡ get_or (m ++ (128 ∷ [])) i 0
-byte_zeros [] f z zero h = refl
-byte_zeros [] f z (suc i) h =
-    let zeros : List ℕ = replicate z 0 in
-    let short : i < z = omega arith in
-    let inside : i < length zeros = simp length-replicate short in
-    byte_front zeros f i inside ∙ get_or-replicate z i 0 0 short
-byte_zeros (x ∷ m) f z zero h = refl
-byte_zeros (x ∷ m) f z (suc i) h = byte_zeros m f z i (omega arith)
-
--- a word that lies before the length field
-pub word_before_length : (m : List ℕ) (len i : ℕ) → i + 12 ≤ length m + length (padding len)
-    → word_at (m ++ padding len) i ≡ word_at (m ++ (128 ∷ [])) i
+-- behind the byte 0x80 and before the length field are zeros
+pub zero_byte : (len i : ℕ) → 1 ≤ i → i + 8 < length (padding len) → get_or (padding len) i 0 ≡ 0
 unfolding padding
-word_before_length m len i before =
-    same-words (m ++ padding len) (m ++ (128 ∷ [])) i i
-    (λ n h. byte_zeros m (bytes_of 8 (8 * len)) (k (8 * len) / 8) (i + n) (omega (arith, length-padding len)))
+zero_byte len zero behind before = absurd (omega arith)
+zero_byte len (suc i) behind before =
+    let zeros : List ℕ = replicate (k (8 * len) / 8) 0 in
+    let short : i < k (8 * len) / 8 = omega (arith, length-padding len) in
+    let inside : i < length zeros = simp length-replicate short in
+    byte_front zeros (bytes_of 8 (8 * len)) i inside ∙ get_or-replicate (k (8 * len) / 8) i 0 0 short
 
 -- the eight bytes of the length, as two words
 length_upper : (x : ℕ) → x < 2 ^ 32 → word_at (bytes_of 8 x) 0 ≡ 0
@@ -199,8 +187,9 @@ module _ (len i : ℕ) (bound : len ≤ 65536) (behind : 1 ≤ i) (inside : i + 
   in_zeros : i + 12 ≤ length (padding len) → word_at (padding len) i ≡ 0
   unfolding word_at
   in_zeros before =
-      word_before_length [] len i (omega arith)
-      ∙ same-words (128 ∷ []) [] i 0 (λ n h. byte_past (128 ∷ []) (i + n) (omega arith))
+      let none : (n : ℕ) → n < 4 → get_or (padding len) (i + n) 0 ≡ 0 = λ n h. zero_byte len (i + n) (omega arith) (omega arith) in
+      let first : get_or (padding len) i 0 ≡ 0 = zero_byte len i behind (omega arith) in
+      rw (first, none 1 (omega arith), none 2 (omega arith), none 3 (omega arith)) refl
 
   -- every other word is zero: before the length field, or its upper word
   pub padding-other : (len + i + 4 ≡ (len + 72) / 64 * 64 → ⊥) → word_at (padding len) i ≡ 0

@@ -13,6 +13,7 @@ ghost use Rattle.sha256_block.specs.Step.{next_hash};
 ghost use Rattle.sha256.specs.Computation.{H₀, hashes, digest, sha256};
 ghost use Rattle.sha256.specs.Continued.{sha256_after, Within};
 
+use message::Message;
 use schedule::schedule;
 use sha256_block::next_hash;
 
@@ -39,7 +40,7 @@ pub fn absorb(h: [u32; 8], bytes: &[u8; 64]) -> [u32; 8]
     ensures { result ≡ next_hash h (block bytes.now 0) }
 {
     let s: &[u8] = bytes;
-    hash_blocks(h, s, &s[..0], &s[..0], 64, 1)
+    hash_blocks(s, &s[..0], &s[..0], 64, h, 1)
 }
 
 // The digest of a message whose first `done` blocks brought the hash value to h, and whose rest is a, b
@@ -48,41 +49,35 @@ pub fn sha256_after(h: [u32; 8], done: usize, a: &[u8], b: &[u8], c: &[u8]) -> [
     requires { 64 * done + (length a.now + length b.now + length c.now) ≤ 65536 }
     ensures { result ≡ sha256_after h done (a.now ++ b.now ++ c.now) }
 {
-    let n = a.len() + b.len() + c.len();
-    digest(hash_blocks(h, a, b, c, 64 * done + n, (n + 72) / 64))
+    let len = 64 * done + (a.len() + b.len() + c.len());
+    let count = Message::new(a, b, c, len).block_count();
+    digest(hash_blocks(a, b, c, len, h, count))
 }
 
-// The hash value after `count` blocks of the padded message, from h on.
-fn hash_blocks(h: [u32; 8], a: &[u8], b: &[u8], c: &[u8], len: usize, count: usize) -> [u32; 8]
+// The hash value after `count` blocks of the padded message, from h on. The message is put together here, where the
+// compiler keeps its parts in registers: a message that was lent took 32 bytes more of stack, and up to 64 in keeper.
+// The parameters stand in the order that takes the least stack.
+fn hash_blocks(a: &[u8], b: &[u8], c: &[u8], len: usize, h: [u32; 8], count: usize) -> [u32; 8]
     requires within { Within (a.now ++ b.now ++ c.now) len }
     requires count_in_bounds { 64 * count ≤ length (a.now ++ b.now ++ c.now ++ padding len) }
     ensures { result ≡ hashes h (a.now ++ b.now ++ c.now ++ padding len) count }
 {
+    let message = Message::new(a, b, c, len);
     let mut value = h;
-    let mut i = 0;
-    while i < count {
-        let w = schedule(a, b, c, len, i);
-        let next = next_hash(value, w);
+    for i in 0..count {
+        let next = next_hash(value, schedule(&message, i));
         value = next;
-        i += 1;
     }
     value
 }
 
-// The eight words of a hash value as 32 bytes, the most significant byte of each first.
+// The eight words of a hash value as 32 bytes, the most significant byte of each first. By index, as in `numbers::copy`.
 fn digest(h: [u32; 8]) -> [u8; 32]
     ensures { result ≡ digest h 8 }
 {
     let mut d = [0; 32];
-    let mut i = 0;
-    while i < 8 {
-        let x = h[i];
-        let at = 4 * i;
-        d[at] = (x / 16777216 % 256) as u8;
-        d[at + 1] = (x / 65536 % 256) as u8;
-        d[at + 2] = (x / 256 % 256) as u8;
-        d[at + 3] = (x % 256) as u8;
-        i += 1;
+    for i in 0..8 {
+        d[4 * i..4 * i + 4].copy_from_slice(&h[i].to_be_bytes());
     }
     d
 }

@@ -6,7 +6,7 @@ use mathlib.Core.Bool.{true}
 use Prim.Native.Nat.{ℕ}
 use mathlib.Core.List.Memᴰ
 use mathlib.Core.List.{List, ◌++◌, Memᴰ}
-use Rattle.records.specs.declared.Tested.TheVariants.{Passed}
+use Rattle.std.specs.Prelude.{Ok}
 use Rattle.records.specs.Page.{zero_summary}
 use Rattle.answers.specs.Design.{Design}
 use Rattle.answers.specs.Hashing.{next_summary, binding_of, binding_in}
@@ -29,7 +29,7 @@ messages_alone = rw (state_0_is, state_a_is, summary_is_lem, binding_0_is, bindi
 
 -- ---- the findings, over any design
 
-module _ (D : Design) (fresh room l request m after state shown : List ℕ) (rack : ℕ) (one : open_tests D fresh room ≡ Passed)
+module _ (D : Design) (fresh room l request m after state shown : List ℕ) (rack : ℕ) (one : open_tests D fresh room ≡ Ok tt)
     (two : perform_verdict D fresh l request room ≡ good state) (page : D.with_summary fresh (next_summary D (D.summary l) request) ≡ after)
     (three : view_verdict D after m rack ≡ good shown)
     (first : binding_in D l ≡ binding_of D zero_summary D.first_bytes) (next : binding_in D m ≡ binding_of D (next_summary D (D.summary l) request) state) where

@@ -1,12 +1,13 @@
 -- A run of three calls of the keeper that ships, with SHA-256, HMAC-SHA-256, 16 racks and records of 451 bytes: open, a perform that
 -- sets the capacity of rack 3 to 100, and a view. What the calls answered and did is computed; the authenticators and the summary are
 -- 32 bytes each, written out. Assumes nothing.
-use Rattle.std.specs.Prelude.{◌≡◌, ℕ, List, [], ◌∷◌, ◌++◌, replicate}
+use Rattle.std.specs.Prelude.{◌≡◌, ℕ, List, [], ◌∷◌, ◌++◌, replicate, Ok}
 use Rattle.std.proofs.Math.Path.{refl, ap}
 use Rattle.std.proofs.Common.{◌∙◌}
 use Rattle.numbers.specs.Numbers.{be_from, be, bytes_of}
 use Rattle.numbers.specs.Parts.{part, over}
 use Rattle.numbers.specs.Comparing.{same}
+use Rattle.refusals.specs.Tested.{Tested}
 use Rattle.racks.specs.Racks.{first_state}
 use Rattle.racks.specs.Layout.{rack_of, bytes_of_rack, state_of, bytes_of_state}
 use Rattle.racks.specs.Rule.{good_rack, good_state}
@@ -16,8 +17,6 @@ use Rattle.requests.specs.Formed.{right_form, right_other, right_amount, well_fo
 use Rattle.requests.specs.Requests.{request_by, request_of, read_request}
 use Rattle.rules.specs.Rules.{over_capacity, over_stored, over_limit, ruling, carry_out}
 use Rattle.rules.specs.Replay.{book}
-use Rattle.records.specs.declared.Tested.{Tested}
-use Rattle.records.specs.declared.Tested.TheVariants.{Passed}
 use Rattle.records.specs.Page.{zero_summary}
 use Rattle.records.specs.Record.{record_of, right_size, right_version, right_state}
 use Rattle.records.specs.Tests.{tested}
@@ -160,7 +159,7 @@ binding-a_is = refl
 
 -- ---- the three calls
 
-pub open_passes : open_tests this_edition fresh room ≡ Passed
+pub open_passes : open_tests this_edition fresh room ≡ Ok tt
 unfolding computing
 open_passes = refl
 
@@ -185,7 +184,7 @@ pub record RunDid (D : Design) (fresh : List ℕ) (run : Run) (messages findings
   pub answers : answered_before D fresh run ≡ bindings
   pub moves : moved_before D fresh run ≡ requests
 
-module _ (D : Design) (fresh room l request m after state shown : List ℕ) (rack : ℕ) (one : open_tests D fresh room ≡ Passed)
+module _ (D : Design) (fresh room l request m after state shown : List ℕ) (rack : ℕ) (one : open_tests D fresh room ≡ Ok tt)
     (two : perform_verdict D fresh l request room ≡ good state) (page : D.with_summary fresh (next_summary D (D.summary l) request) ≡ after)
     (three : view_verdict D after m rack ≡ good shown) where
   pub page_1 : (open_did D (opened D fresh room).page (open_tests D fresh room)).page ≡ fresh

@@ -9,21 +9,63 @@
 // A read or a write that fails ends the run with an error.
 #![tactic(auto)]
 
-mod items;
-mod output;
+ghost use Rattle.std.specs.Prelude.{ℕ, List, [], ◌∷◌, ◌++◌, OnOk};
+ghost use Rattle.std.specs.Io.KnownBytes.{Appends, Consumes};
+ghost use Rattle.sha256.specs.Computation.{sha256};
+ghost use Rattle.hmac.specs.Hmac.{hmac};
+ghost use Rattle.inputs.specs.HexText.{hex_text};
+ghost use Rattle.inputs.specs.Part.{part_bytes};
 
-use items::answer_next;
+use hmac::hmac;
+use inputs::{Hex, ItemError, answer_items, read_part};
+use sha256::sha256;
 use std::io;
+use std::io::{Read, Write};
 
-// A proved loop has to end, and nothing says that the input does. So the loop has a last turn, whose number no run
-// reaches. Neither stream has a buffer that outlives a call: each line is out before the next item is read.
+// The bounds of the hash and of the MAC. The room that a part is read into is as large as its bound.
+const HASH_MESSAGE: usize = 65536;
+
+const MAC_KEY: usize = 256;
+
+const MAC_MESSAGE: usize = 65472;
+
+// Neither stream has a buffer that outlives a call: each line is out before the next item is read.
 fn main(rt: HostRuntime) -> io::Result<()> {
     let mut input = rt.stdin();
     let mut out = rt.stdout();
-    for _ in 0..u64::MAX {
-        if !answer_next(&mut input, &mut out)? {
-            break;
-        }
-    }
+    answer_items(&mut input, &mut out, |input, out, tag| match tag {
+        b'h' => answer_hash(input, out),
+        b'm' => answer_mac(input, out),
+        _ => Err(ItemError::Bad),
+    })
+}
+
+fn answer_hash<R: Read, W: Write>(input: &mut R, out: &mut W) -> Result<(), ItemError>
+    ensures { OnOk result ((message : List ℕ)
+        × Consumes (R.remaining input.old) (R.remaining input.new) (part_bytes message)
+        × Appends (W.contents out.old) (W.contents out.new) (hex_text (sha256 message) ++ 10 ∷ [])) }
+{
+    let mut room = [0u8; HASH_MESSAGE];
+    let message = read_part(input, &mut room)?;
+    put(out, sha256(message, &[], &[]))
+}
+
+fn answer_mac<R: Read, W: Write>(input: &mut R, out: &mut W) -> Result<(), ItemError>
+    ensures { OnOk result ((key : List ℕ) × (message : List ℕ)
+        × Consumes (R.remaining input.old) (R.remaining input.new) (part_bytes key ++ part_bytes message)
+        × Appends (W.contents out.old) (W.contents out.new) (hex_text (hmac key message) ++ 10 ∷ [])) }
+{
+    let mut key_room = [0u8; MAC_KEY];
+    let key = read_part(input, &mut key_room)?;
+    let mut room = [0u8; MAC_MESSAGE];
+    let message = read_part(input, &mut room)?;
+    put(out, hmac(key, message, &[]))
+}
+
+// An answer's line.
+fn put<W: Write>(out: &mut W, answer: [u8; 32]) -> Result<(), ItemError>
+    ensures { OnOk result (Appends (W.contents out.old) (W.contents out.new) (hex_text answer ++ 10 ∷ [])) }
+{
+    writeln!(out, "{}", Hex(&answer))?;
     Ok(())
 }

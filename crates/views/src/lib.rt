@@ -4,26 +4,21 @@
 mod resuming;
 mod viewing;
 
-use refusals::Refusal;
 pub use resuming::choose;
 pub use viewing::view;
 
-// What view answers.
-#[derive(Clone, Copy)]
-pub enum ViewAnswer {
-    Seen {
-        stored: u32,
-        capacity: u32,
-        percent: u32,
-        total: u32,
-    },
-    Refused(Refusal),
+// What view answers of a rack: the first three figures are its own, and the total is over all racks.
+#[derive(Clone, Copy, Debug, PartialEq, Eq)]
+pub struct Seen {
+    pub stored: u32,
+    pub capacity: u32,
+    pub percent: u32,
+    pub total: u32,
 }
 
 // Which of its two records resume hands back.
-#[derive(Clone, Copy)]
+#[derive(Clone, Copy, Debug, PartialEq, Eq)]
 pub enum Which {
-    Neither,
     Ram,
     Disk,
 }

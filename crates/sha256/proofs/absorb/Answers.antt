@@ -1,12 +1,8 @@
 -- `absorb` hashes one block: the first of a message that begins with it. Assumes nothing.
+use Rattle.std.proofs.Common.{◌≡◌, ◌∙◌, [], length, refl, arith, rules}
 use Rattle.sha256.specs.Padding.{padding}
 use Rattle.sha256.proofs.ContinuedLaws.{one_block}
 use Rattle.sha256.proofs.MessageLaws.{within, sizes}
-use mathlib.Core.Path.{◌≡◌, ◌∙◌}
-use mathlib.Core.List.{[]}
-use lib.ListN.{length}
-use native.Mathlib.Omega.{arith}
-use borrow.Author.Rules.{rules}
 use Rattle.sha256.proofs.absorb.Goals as goal
 
 pub hash_blocks-requires : goal.hash_blocks-requires
@@ -14,7 +10,7 @@ hash_blocks-requires c =
     let s = c.args in
     let long : length s.bytes.now ≡ 64 = search rules in
     let inside = within s.bytes.now [] [] 64 (omega arith) (omega arith) (omega arith) in
-    let z = sizes s.bytes.now [] [] 64 inside in
+    let z = sizes s.bytes.now [] [] 64 inside refl in
     record { within = inside; count_in_bounds = omega arith }
 
 pub returns : goal.returns

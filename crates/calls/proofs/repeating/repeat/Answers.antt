@@ -1,68 +1,34 @@
--- `repeat` meets its contract: as perform, and past the tests the page's summary is the next. Assumes nothing.
-use mathlib.Core.Path.{◌≡◌, refl, sym, ◌∙◌}
-use native.Mathlib.Omega.{arith}
-use mathlib.Core.List.{List}
-use Prim.Native.Nat.{ℕ}
-use Rattle.requests.specs.declared.Request.{Request}
-use Rattle.requests.specs.Requests.{request_of}
-use Rattle.records.specs.Form.{Form, form_of}
-use Rattle.offers.specs.declared.Offer.{Offer}
-use Rattle.offers.specs.declared.Offer.TheVariants.{Formed}
-use lib.ListN.{length}
-use Rattle.offers.specs.Offers.{PassedOffer, offered_at, offer_by}
-use Rattle.offers.proofs.Passing.{offered-length, offered_request, offered-range, offered-named}
-use Rattle.calls.proofs.CarryingOut.{ready}
-use Rattle.calls.proofs.Answering.{repeats, early, asked, forged, stale, barred, done, follows}
+-- `repeat` meets its contract: each test in its place, and past them all what was written. Assumes nothing.
+use mathlib.Core.Path.{refl}
+use Rattle.std.proofs.lemmas.Result.{err_from_is_err_and}
+use Rattle.calls.proofs.Answering.{repeats, forged, stale, barred, done, follows}
 use Rattle.calls.proofs.repeating.repeat.Goals as goal
-
--- tests 1 to 6 have passed with the request q
-offer : (f : Form) (page l request answer : List ℕ) {x : Offer} {q : Request} → x ≡ offer_by (offered_at f (length page) (length answer) l request) (request_of request)
-    → x ≡ Formed q → PassedOffer f (length page) (length answer) l request q
-offer f page l request answer found formed = asked (repeats f page l request answer) found formed
-
-pub prepared-key-requires : goal.prepared-key-requires
-prepared-key-requires c =
-    (offer (form_of c.args.form) c.args.page.now c.args.«record».now c.args.request.now c.args.answer.now c.test_offer.ensures c.in-Formed.is).size
-
-pub valid-requires : goal.valid-requires
-valid-requires c =
-    offered-length _ _ _ _ _ _ (offer (form_of c.args.form) c.args.page.now c.args.«record».now c.args.request.now c.args.answer.now c.test_offer.ensures c.in-Formed.is)
 
 pub returns-then-not-valid : goal.returns-then-not-valid
 returns-then-not-valid c =
-    let s = c.args in
-    forged (repeats _ s.page.now _ _ s.answer.now) c.test_offer.ensures c.in-Formed.is c.prepared-key.ensures c.valid.ensures c.if-not-valid.true
-
-pub leads_to-requires : goal.leads_to-requires
-leads_to-requires c =
-    let o = offer (form_of c.args.form) c.args.page.now c.args.«record».now c.args.request.now c.args.answer.now c.test_offer.ensures c.in-Formed.is in
-    record { page_len = o.size; record_len = offered-length _ _ _ _ _ _ o; request_len = offered_request _ _ _ _ _ _ o }
+    let h = c.in_ok-held in
+    let call = repeats h.held h.offer h.ensures.of_page h.ensures.of_record h.ensures.of_request h.ensures.tests in
+    forged call c.prepared-key.ensures c.valid.ensures c.if-not-valid.true
 
 pub returns-then-not-leads_to : goal.returns-then-not-leads_to
 returns-then-not-leads_to c =
-    let s = c.args in
-    stale (repeats _ s.page.now _ _ s.answer.now) c.test_offer.ensures c.in-Formed.is c.prepared-key.ensures c.valid.ensures c.if-not-valid.false c.leads_to.ensures c.if-not-leads_to.true
+    let h = c.in_ok-held in
+    let call = repeats h.held h.offer h.ensures.of_page h.ensures.of_record h.ensures.of_request h.ensures.tests in
+    stale call c.prepared-key.ensures c.valid.ensures c.if-not-valid.false c.leads_to.ensures c.if-not-leads_to.true
 
-pub judge_record-requires : goal.judge_record-requires
-judge_record-requires c =
-    let o = offer (form_of c.args.form) c.args.page.now c.args.«record».now c.args.request.now c.args.answer.now c.test_offer.ensures c.in-Formed.is in
-    record { record_len = offered-length _ _ _ _ _ _ o; named = offered-named _ _ _ _ _ _ o }
+pub returns-in_err-judge_offer : goal.returns-in_err-judge_offer
+returns-in_err-judge_offer c =
+    let h = c.in_ok-held in
+    let call = repeats h.held h.offer h.ensures.of_page h.ensures.of_record h.ensures.of_request h.ensures.tests in
+    let e = err_from_is_err_and c.from_residual-in_err-judge_offer.result c.from_residual-in_err-judge_offer.ensures.1 in
+    rw (e.1, e.2)
+    (barred call c.prepared-key.ensures c.valid.ensures c.if-not-valid.false c.leads_to.ensures c.if-not-leads_to.false
+    c.judge_offer.ensures _ c.in_err-judge_offer.was)
 
-pub write_repeated-stored-requires : goal.write_repeated-stored-requires
-write_repeated-stored-requires c =
-    let s = c.args in
-    let o = offer (form_of c.args.form) c.args.page.now c.args.«record».now c.args.request.now c.args.answer.now c.test_offer.ensures c.in-Formed.is in
-    let long = offered-length _ _ _ _ _ _ o in
-    record { page_len = o.size; form_in_bounds = o.answer; record_len = long; ready = ready (form_of s.form) s.«record».now _ (omega (arith, long)) (offered-range _ _ _ _ _ _ o) (sym c.judge_record.ensures ∙ c.in-Free.is) }
-
-pub returns-in-Refused : goal.returns-in-Refused
-returns-in-Refused c =
-    early (repeats _ _ _ _ _) c.test_offer.ensures _ c.in-Refused.is
-
-pub returns-in-Barred : goal.returns-in-Barred
-returns-in-Barred c =
-    barred (repeats _ _ _ _ _) c.test_offer.ensures c.in-Formed.is c.prepared-key.ensures c.valid.ensures c.if-not-valid.false c.leads_to.ensures c.if-not-leads_to.false c.judge_record.ensures _ c.in-Barred.is
-
-pub returns-in-Free : goal.returns-in-Free
-returns-in-Free c =
-    done (repeats _ _ _ _ _) c.test_offer.ensures c.in-Formed.is c.prepared-key.ensures c.valid.ensures c.if-not-valid.false c.leads_to.ensures c.if-not-leads_to.false c.judge_record.ensures c.in-Free.is refl (follows c.leads_to.ensures c.if-not-leads_to.false) c.write_repeated-stored.ensures.value c.write_repeated-stored.ensures.answer_after
+pub returns : goal.returns
+returns c =
+    let h = c.in_ok-held in
+    let call = repeats h.held h.offer h.ensures.of_page h.ensures.of_record h.ensures.of_request h.ensures.tests in
+    let wrote = c.write_repeated.ensures in
+    done call c.prepared-key.ensures c.valid.ensures c.if-not-valid.false c.leads_to.ensures c.if-not-leads_to.false
+    c.judge_offer.ensures c.in_ok-judge_offer.was refl (follows c.leads_to.ensures c.if-not-leads_to.false) wrote.value wrote.answer_after

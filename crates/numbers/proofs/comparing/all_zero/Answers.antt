@@ -1,37 +1,16 @@
--- `all_zero` meets its contract. The invariant is that of `same`, against as many zeros. Assumes nothing.
-use mathlib.Core.Path.{◌≡◌, refl, sym, ◌∙◌}
-use mathlib.Core.Bool.{◌&&◌}
-use Prim.Native.Nat.{ℕ, ◌+◌, ◌≤◌, ◌<◌}
-use mathlib.Core.List.{List}
-use native.Mathlib.Omega.{arith}
-use lib.ListN.{length, get_or, drop, length-replicate, get_or-replicate}
+-- `all_zero` meets its contract: the fold is that of `same`, against as many zeros. Assumes nothing.
+use mathlib.Core.Path.{sym, ap, ◌∙◌}
+use lib.ListN.{length, replicate, length-replicate}
 use lib.Dec.{eqb}
-use lib.Bits.{bit_or, bit_xor, xor_zero_r}
-use Rattle.numbers.specs.Comparing.{same}
-use Rattle.numbers.proofs.Differences as differences
-use Rattle.numbers.proofs.comparing.all_zero.Invariants.{zeros}
+use lib.Bits.{bit_or}
+use Rattle.std.proofs.Common.{rules}
+use Rattle.std.proofs.lemmas.Iterator.{YieldsList-from_slice}
+use Rattle.std.proofs.lemmas.Iterator.Consumers.{fold_from_yields_List}
+use Rattle.numbers.proofs.Differences.{against_zeros, differences-same}
 use Rattle.numbers.proofs.comparing.all_zero.Goals as goal
-
--- a turn compares with a zero
-turn : (d i : ℕ) (s : List ℕ) → i < length s
-    → (eqb (bit_or d (get_or s i 0)) 0 && same (drop (i + 1) s) (drop (i + 1) (zeros s))) ≡ (eqb d 0 && same (drop i s) (drop i (zeros s)))
-turn d i s h =
-    let inside : i < length (zeros s) = rw length-replicate h in
-    let here : bit_xor (get_or s i 0) (get_or (zeros s) i 0) ≡ get_or s i 0 = rw get_or-replicate (xor_zero_r (get_or s i 0)) in
-    rw here at (differences.turn d i s (zeros s) h inside)
-
-pub loop-i-init : goal.loop-i-init
-loop-i-init c = (omega arith, refl)
-
-pub loop-i-preserved : goal.loop-i-preserved
-loop-i-preserved c =
-    let s = c.args.s.now in
-    let l = c.loop-i in
-    (omega arith, turn l.any l.i s c.loop-i-test.true ∙ l.invariant.1)
 
 pub returns : goal.returns
 returns c =
     let s = c.args.s.now in
-    let l = c.loop-i in
-    let past : length (zeros s) ≤ l.i = rw length-replicate (omega arith) in
-    sym (differences.end l.any l.i s (zeros s) (omega arith) past) ∙ l.invariant.1
+    ap (λ d. eqb d 0) (fold_from_yields_List _ bit_or 0 c.fold.result c.fold.ensures.ran (YieldsList-from_slice s cc) (λ d x r q k. search rules) ∙ against_zeros 0 s)
+    ∙ differences-same 0 s (replicate (length s) 0) (sym (length-replicate (length s) 0))

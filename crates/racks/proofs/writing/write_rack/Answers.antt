@@ -7,5 +7,5 @@ use Rattle.racks.proofs.writing.write_rack.Goals as goal
 pub returns : goal.returns
 returns c =
     let a = c.args in
-    rw (c.write64-2.ensures, c.write64.ensures, c.write32-2.ensures, c.write32.ensures)
+    rw (c.write-4.ensures, c.write-3.ensures, c.write-2.ensures, c.write.ensures)
     (simp (length-bytes_of, add_assoc) at (lay_at_rack a.at a.r a.d.now c.requires))

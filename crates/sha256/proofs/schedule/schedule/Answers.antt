@@ -1,42 +1,24 @@
--- `schedule` gives W of the block. The invariant: the first n + 16 words are the schedule after n steps. Assumes nothing.
-use borrow.Author.Rules.{rules}
-use Rattle.sha256.proofs.Growing.{filled}
-use Rattle.sha256.proofs.ScheduleLaws.{four_words}
-use Rattle.sha256_block.specs.Schedule.{next_word, schedule, W}
+-- `schedule` gives W of the block. The invariant: the first 4 turn + 16 words are the schedule after 4 turn steps. Assumes nothing.
+use Rattle.std.proofs.Common.{arith, rules}
+use Rattle.std.proofs.lemmas.Grind.{common_steps}
 use Rattle.sha256.specs.Parsing.{block}
-use Rattle.sha256.specs.Padding.{padding}
-use native.Mathlib.Omega.{arith}
-use mathlib.Core.List.{◌++◌}
-use lib.ListN.{set, get_or, length-set}
-use mathlib.Core.Path.{◌≡◌, ap, ◌∙◌}
-use Prim.Native.Nat.{◌+◌}
+use Rattle.sha256_block.specs.Schedule.{schedule, W}
+use Rattle.sha256.proofs.ScheduleLaws.{at_place}
 use Rattle.sha256.proofs.schedule.schedule.Goals as goal
 
-pub loop-n-init : goal.loop-n-init
+pub loop-turn-init : goal.loop-turn-init
 unfolding schedule
-loop-n-init c = search rules
+loop-turn-init c = search rules
 
-pub loop-n-preserved : goal.loop-n-preserved
-loop-n-preserved c =
-    let at = c.loop-n in
-    let w = set at.w (at.n + 16) c.next_word.result in
-    let second : c.next_word-in-loop-n.result ≡ next_word (get_or w (at.n + 15) 0) (get_or w (at.n + 10) 0) (get_or w (at.n + 2) 0) (get_or w (at.n + 1) 0) =
-    c.next_word-in-loop-n.ensures in (
-      omega arith,
-      omega arith,
-      simp length-set at.invariant.2,
-      four_words _ _ _ _ _ _ _ (omega arith) at.invariant.3
-          c.next_word.ensures
-          second
-          c.next_word-in-loop-n-2.ensures
-          c.next_word-in-loop-n-3.ensures,
-    )
+pub loop-turn-preserved : goal.loop-turn-preserved
+loop-turn-preserved c =
+    let M = block c.args.message.now c.args.i in
+    let s₁ = c.add_word.ensures M c.loop-turn.invariant.1 in
+    let s₂ = c.add_word-in-loop-turn.ensures M s₁ in
+    let s₃ = c.add_word-in-loop-turn-2.ensures M (at_place M _ _ _ (omega arith) s₂) in
+    let s₄ = c.add_word-in-loop-turn-3.ensures M (at_place M _ _ _ (omega arith) s₃) in
+    (search rules, at_place M _ _ _ (omega arith) s₄)
 
 pub returns : goal.returns
 unfolding W
-returns c =
-    let s = c.args in
-    let at = c.loop-n in
-    let end : at.n ≡ 48 = omega arith in
-    filled at.w (at.n + 16) (omega arith) at.invariant.3
-    ∙ ap (schedule (block (s.a.now ++ s.b.now ++ s.c.now ++ padding s.len) s.i)) end
+returns c = grind (arith, common_steps)

@@ -1,7 +1,0 @@
--- `word` is the word at a place of a slice, from its four bytes. Assumes nothing.
-use Rattle.sha256_words.specs.Words.{word_at}
-use Rattle.sha256.proofs.message.word.Goals as goal
-
-pub returns : goal.returns
-unfolding word_at
-returns c = cc

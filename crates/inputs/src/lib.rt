@@ -10,7 +10,7 @@ ghost use Rattle.std.specs.Int.{w32, to_be_bytes};
 ghost use Rattle.std.specs.Io.KnownBytes.{Consumes};
 ghost use Rattle.inputs.specs.Part.{part_bytes};
 
-pub use hex::Hex;
+pub use hex::{Hex, put_digits};
 use std::io;
 use std::io::{ErrorKind, Read, Write};
 

@@ -16,8 +16,8 @@ pub(crate) fn answer_open(input: &mut impl Read, out: &mut impl Write) -> Result
     let page = read_part(input, &mut page)?;
     let mut answer = [0u8; BOOK];
     let answer = read_part(input, &mut answer)?;
-    let number = keeper::number(keeper::open(page, answer));
-    writeln!(out, "o {number:08x} {} {}", Hex(page), Hex(answer))?;
+    let number = keeper::number(keeper::open(page, answer)).to_be_bytes();
+    writeln!(out, "o {} {} {}", Hex(&number), Hex(page), Hex(answer))?;
     Ok(())
 }
 
@@ -38,8 +38,8 @@ pub(crate) fn answer_offer<F: FnOnce(&mut [u8], &[u8], &[u8], &mut [u8]) -> Resu
     let request = read_part(input, &mut request)?;
     let mut answer = [0u8; BOOK];
     let answer = read_part(input, &mut answer)?;
-    let [number, stored] = offer_numbers(call(page, record, request, answer));
-    write!(out, "{letter} {number:08x} {stored:08x} ")?;
+    let [number, stored] = offer_numbers(call(page, record, request, answer)).map(u32::to_be_bytes);
+    write!(out, "{letter} {} {} ", Hex(&number), Hex(&stored))?;
     writeln!(
         out,
         "{} {} {} {}",
@@ -57,10 +57,17 @@ pub(crate) fn answer_view(input: &mut impl Read, out: &mut impl Write) -> Result
     let mut record = [0u8; BOOK];
     let record = read_part(input, &mut record)?;
     let rack = read_number(input)?;
-    let [number, stored, capacity, percent, total] = view_numbers(keeper::view(page, record, rack));
+    let [number, stored, capacity, percent, total] = view_numbers(keeper::view(
+        page, record, rack,
+    )).map(u32::to_be_bytes);
     write!(
         out,
-        "v {number:08x} {stored:08x} {capacity:08x} {percent:08x} {total:08x} "
+        "v {} {} {} {} {} ",
+        Hex(&number),
+        Hex(&stored),
+        Hex(&capacity),
+        Hex(&percent),
+        Hex(&total)
     )?;
     writeln!(out, "{} {}", Hex(page), Hex(record))?;
     Ok(())
@@ -74,10 +81,11 @@ pub(crate) fn answer_resume(input: &mut impl Read, out: &mut impl Write) -> Resu
     let mut disk = [0u8; BOOK];
     let disk = read_part(input, &mut disk)?;
     let part = keeper::resume(page, ram, disk);
-    let number = resume_number(part, ram);
+    let number = resume_number(part, ram).to_be_bytes();
     writeln!(
         out,
-        "u {number:08x} {} {} {} {}",
+        "u {} {} {} {} {}",
+        Hex(&number),
         Hex(page),
         Hex(ram),
         Hex(disk),

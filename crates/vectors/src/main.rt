@@ -17,7 +17,7 @@ ghost use Rattle.inputs.specs.HexText.{hex_text};
 ghost use Rattle.inputs.specs.Part.{part_bytes};
 
 use hmac::hmac;
-use inputs::{Hex, ItemError, answer_items, read_part};
+use inputs::{ItemError, answer_items, put_digits, read_part};
 use sha256::sha256;
 use std::io;
 use std::io::{Read, Write};
@@ -62,10 +62,12 @@ fn answer_mac<R: Read, W: Write>(input: &mut R, out: &mut W) -> Result<(), ItemE
     put(out, hmac(key, message, &[]))
 }
 
-// An answer's line.
+// An answer's line, written whole.
 fn put<W: Write>(out: &mut W, answer: [u8; 32]) -> Result<(), ItemError>
     ensures { OnOk result (Appends (W.contents out.old) (W.contents out.new) (hex_text answer ++ 10 ∷ [])) }
 {
-    writeln!(out, "{}", Hex(&answer))?;
+    let mut line = [b'\n'; 65];
+    put_digits(&answer, &mut line);
+    out.write_all(&line)?;
     Ok(())
 }
